@@ -1,0 +1,8 @@
+pub mod Collecting
+pub mod Composing
+pub mod Controlling
+pub mod Exits
+pub mod Heading
+pub mod Making
+pub mod Rendering
+pub mod Storing

@@ -1,0 +1,4 @@
+pub mod Rendering
+pub mod Room
+pub mod Spacing
+pub mod Writing

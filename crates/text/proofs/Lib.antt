@@ -1,0 +1,5 @@
+pub mod Cutting
+pub mod Forming
+pub mod Reading
+pub mod Render
+pub mod Rows
