@@ -5,15 +5,15 @@ use mathlib.Core.Path.{_≡_, refl, sym, ap, _∙_}
 use native.Mathlib.Omega.{arith}
 use lib.IntN.{ℤ}
 use lib.ListN.{length, take, drop, set, replicate}
-use Rattle.std.proofs.shelf.Lists.{append-nil, take-more-set, drop-set-lt, drop-drop, drop-replicate}
+use Rattle.std.proofs.shelf.Lists.{append-nil, take-more-set}
 use Rattle.std.specs.declared.result.Result.{Result}
 use Rattle.std.specs.declared.result.Result.the-variants.{Ok, Err}
-use Rattle.text.specs.Lines.{bind, padded}
+use Rattle.text.specs.Lines.{bind, padded, padded-line}
 use Rattle.laws.specs.Laws.{row-line, rows-of}
-use Rattle.laws.specs.Tables.{two, zero-row, row-stored, rows-stored}
+use Rattle.laws.specs.Tables.{two, zero-row, rows-stored}
 use Rattle.laws.specs.declared.faults.LawFault.{LawFault}
 use Rattle.laws.specs.declared.table.LawKind.{LawKind}
-use Rattle.laws.proofs.Storing.{row-ok, row-err}
+use Rattle.text.proofs.Rows.{padded-line-ok, padded-line-err}
 
 -- rows as they are stored, behind those that are stored already
 abbrev pub stored-behind : List (List ℤ) → Result (List (List ℤ) × List ℕ) LawFault → Result (List (List ℤ) × List ℕ) LawFault
@@ -35,11 +35,11 @@ opens kind n k j line text e = ap (λ t. rows-of kind n t line text) e
 
 -- one line more
 pub more : (kind : LawKind) (n m i : ℕ) (text after : List ℕ) (row : List ℤ) (rows : List (List ℤ)) (r : Result (List (List ℤ) × List ℕ) LawFault)
-    → i < m → i < length rows → Ok (row, after) ≡ row-stored (row-line kind n (4 + i) text)
+    → i < m → i < length rows → Ok (row, after) ≡ padded-line (row-line kind n (4 + i) text)
     → stored-behind (take i rows) (rows-of kind n (m - i) (4 + i) text) ≡ r
     → stored-behind (take (i + 1) (set rows i row)) (rows-of kind n (m - (i + 1)) (4 + (i + 1)) after) ≡ r
 more kind n m i text after row rows r lt il h inv =
-    let p = row-ok (row-line kind n (4 + i) text) row after h in
+    let p = padded-line-ok (row-line kind n (4 + i) text) row after h in
     let e : m - i ≡ suc (m - (i + 1)) = omega arith in
     let l : 4 + (i + 1) ≡ 4 + i + 1 = omega arith in
     ap (λ t. stored-behind t (rows-of kind n (m - (i + 1)) (4 + (i + 1)) after)) (take-more-set rows i row il ∙ ap (λ t. take i rows ++ t ∷ []) (p .2))
@@ -52,18 +52,13 @@ more kind n m i text after row rows r lt il h inv =
 
 -- a line that is refused
 pub stops : (kind : LawKind) (n m i : ℕ) (text : List ℕ) (front : List (List ℤ)) (e : LawFault) (r : Result (List (List ℤ) × List ℕ) LawFault)
-    → i < m → Err e ≡ row-stored (row-line kind n (4 + i) text) → stored-behind front (rows-of kind n (m - i) (4 + i) text) ≡ r → Err e ≡ r
+    → i < m → Err e ≡ padded-line (row-line kind n (4 + i) text) → stored-behind front (rows-of kind n (m - i) (4 + i) text) ≡ r → Err e ≡ r
 stops kind n m i text front e r lt h inv =
     let k : m - i ≡ suc (m - (i + 1)) = omega arith in
     ap (stored-behind front)
     (sym (opens kind n (m - i) (m - (i + 1)) (4 + i) text k
-    ∙ ap (λ y. bind y (λ p. bind (rows-of kind n (m - (i + 1)) (4 + i + 1) (p .1)) (λ q. Ok (p .0 ∷ q .0, q .1)))) (row-err (row-line kind n (4 + i) text) e h)))
+    ∙ ap (λ y. bind y (λ p. bind (rows-of kind n (m - (i + 1)) (4 + i + 1) (p .1)) (λ q. Ok (p .0 ∷ q .0, q .1)))) (padded-line-err (row-line kind n (4 + i) text) e h)))
     ∙ inv
-
-pub zeros-more : (i : ℕ) (rows : List (List ℤ)) (row : List ℤ) → drop i rows ≡ replicate (2 - i) zero-row → drop (i + 1) (set rows i row) ≡ replicate (2 - (i + 1)) zero-row
-zeros-more i rows row e =
-    drop-set-lt (i + 1) rows i row (omega arith) ∙ sym (drop-drop 1 i rows) ∙ ap (drop 1) e ∙ drop-replicate 1 (2 - i) zero-row
-    ∙ ap (λ n. replicate n zero-row) (omega arith)
 
 filled : (i : ℕ) (rows : List (List ℤ)) → i ≤ 2 → length rows ≡ 2 → drop i rows ≡ replicate (2 - i) zero-row → rows ≡ two zero-row (take i rows ++ [])
 filled i [] h l e = absurd (omega arith)

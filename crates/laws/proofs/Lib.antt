@@ -1,7 +1,6 @@
 pub mod Collecting
 pub mod Composing
 pub mod Controlling
-pub mod Exits
 pub mod Heading
 pub mod Making
 pub mod Rendering

@@ -9,7 +9,7 @@ use lib.ListN.{length, getD, take, drop, set, replicate}
 use lib.Signed.{ltZ}
 use mir.Val.{SFits, toZ, ofZ}
 use mir.Syntax.{w64}
-use Rattle.std.proofs.shelf.Lists.{take-append-drop, take-more, take-more-set, drop-set-lt, drop-drop, drop-replicate}
+use Rattle.std.proofs.shelf.Lists.{take-append-drop, take-more, take-more-set}
 use Rattle.std.proofs.shelf.Signed.{ints, toZ-ofZ}
 use Rattle.std.proofs.shelf.Tests.{cond-true, cond-false}
 use Rattle.std.specs.declared.result.Result.{Result}
@@ -18,10 +18,10 @@ use Rattle.control.specs.declared.input.Input.{Input}
 use Rattle.text.specs.Lines.{bind, numbers-line, padded, padded-line, place, row-width}
 use Rattle.text.specs.declared.faults.TextFault.{TextFault}
 use Rattle.text.specs.declared.number.Limit.{Limit}
-use Rattle.text.proofs.Forming.{ok-same}
+use Rattle.text.proofs.Rows.{padded-line-err, padded-line-ok}
 use Rattle.laws.specs.Laws.{as-law, misordered, ordered, row-line}
 use Rattle.laws.specs.Limits.{row-limits}
-use Rattle.laws.specs.Tables.{input-of, row-stored}
+use Rattle.laws.specs.Tables.{input-of}
 use Rattle.laws.specs.declared.faults.LawFault.{LawFault}
 use Rattle.laws.specs.declared.faults.LawFault.the-variants.{Text, Order}
 use Rattle.laws.specs.declared.table.LawKind.{LawKind}
@@ -39,11 +39,6 @@ limits-last (suc (suc (suc (suc (suc n))))) h = absurd (omega arith)
 -- one gain more
 pub gains-more : (gains row : List ℤ) (i : ℕ) → i < length gains → i < length row → take i gains ≡ take i row → take (i + 1) (set gains i (getD row i (pos 0))) ≡ take (i + 1) row
 gains-more gains row i h k e = take-more-set gains i (getD row i (pos 0)) h ∙ ap (λ t. t ++ getD row i (pos 0) ∷ []) e ∙ sym (take-more row i (pos 0) k)
-
-pub zeros-more : (w i : ℕ) (xs : List ℤ) (z : ℤ) → drop i xs ≡ replicate (w - i) (pos 0) → drop (i + 1) (set xs i z) ≡ replicate (w - (i + 1)) (pos 0)
-zeros-more w i xs z e =
-    drop-set-lt (i + 1) xs i z (omega arith) ∙ sym (drop-drop 1 i xs) ∙ ap (drop 1) e ∙ drop-replicate 1 (w - i) (pos 0)
-    ∙ ap (λ n. replicate n (pos 0)) (omega arith)
 
 pub gains-full : (gains row : List ℤ) (i : ℕ) → take i gains ≡ take i row → drop i gains ≡ replicate (4 - i) (pos 0) → gains ≡ take i row ++ replicate (4 - i) (pos 0)
 gains-full gains row i e f = sym (take-append-drop i gains) ∙ ap (λ t. t ++ drop i gains) e ∙ ap (λ t. take i row ++ t) f
@@ -82,28 +77,18 @@ padding [] k i = zeros-at k i
 padding (z ∷ zs) k zero = refl
 padding (z ∷ zs) k (suc i) = padding zs k i
 
-line-err : (r : Result (List ℤ × List ℕ) TextFault) (e : TextFault) → Err e ≡ padded-line r → r ≡ Err e
-line-err (Ok p) e h = grind arith
-line-err (Err d) e h = let k : d ≡ e = cc in ap Err k
-
-line-ok : (r : Result (List ℤ × List ℕ) TextFault) (row : List ℤ) (rest : List ℕ) → Ok (row, rest) ≡ padded-line r → (zs : List ℤ) × (r ≡ Ok (zs, rest)) × (row ≡ padded zs)
-line-ok (Ok p) row rest h =
-    let k : (row, rest) ≡ (padded (p .0), p .1) = ok-same (row, rest) (padded (p .0), p .1) h in
-    (p .0, ap (λ t. Ok (p .0, t)) (sym (ap (λ t. t .1) k)), ap (λ t. t .0) k)
-line-ok (Err d) row rest h = grind arith
-
 pub row-break : (kind : LawKind) (n line : ℕ) (text : List ℕ) (ls : List Limit) (e : TextFault) → ls ≡ row-limits kind n → Err e ≡ padded-line (numbers-line line ls text)
-    → Err (Text e) ≡ row-stored (row-line kind n line text)
+    → Err (Text e) ≡ padded-line (row-line kind n line text)
 row-break kind n line text ls e l h =
-    ap (λ r. row-stored (bind (as-law r) (λ p. bind (ordered kind n line (p .0)) (λ _. Ok p))))
-    (sym (ap (λ t. numbers-line line t text) (sym l) ∙ line-err (numbers-line line ls text) e h))
+    ap (λ r. padded-line (bind (as-law r) (λ p. bind (ordered kind n line (p .0)) (λ _. Ok p))))
+    (sym (ap (λ t. numbers-line line t text) (sym l) ∙ padded-line-err (numbers-line line ls text) e h))
 
 row-at : (kind : LawKind) (n line : ℕ) (text : List ℕ) (ls : List Limit) (zs : List ℤ) (rest : List ℕ) (o : Result (Unit {0}) LawFault)
     → ls ≡ row-limits kind n → numbers-line line ls text ≡ Ok (zs, rest) → ordered kind n line zs ≡ o
-    → row-stored (bind o (λ _. Ok (zs, rest))) ≡ row-stored (row-line kind n line text)
+    → padded-line (bind o (λ _. Ok (zs, rest))) ≡ padded-line (row-line kind n line text)
 row-at kind n line text ls zs rest o l h t =
-    ap (λ b. row-stored (bind b (λ _. Ok (zs, rest)))) (sym t)
-    ∙ ap (λ r. row-stored (bind (as-law r) (λ p. bind (ordered kind n line (p .0)) (λ _. Ok p)))) (sym (ap (λ t. numbers-line line t text) (sym l) ∙ h))
+    ap (λ b. padded-line (bind b (λ _. Ok (zs, rest)))) (sym t)
+    ∙ ap (λ r. padded-line (bind (as-law r) (λ p. bind (ordered kind n line (p .0)) (λ _. Ok p)))) (sym (ap (λ t. numbers-line line t text) (sym l) ∙ h))
 
 misordered-same : (kind : LawKind) (n : ℕ) (zs row : List ℤ) → row ≡ padded zs → misordered kind n zs ≡ misordered kind n row
 misordered-same Fixed n zs row e = refl
@@ -114,25 +99,14 @@ misordered-same Saturated n zs row e =
 
 pub row-out : (kind : LawKind) (n line : ℕ) (text : List ℕ) (ls : List Limit) (row : List ℤ) (rest : List ℕ)
     → ls ≡ row-limits kind n → Ok (row, rest) ≡ padded-line (numbers-line line ls text) → misordered kind n row ≡ true
-    → Err (Order (place line (n + 4))) ≡ row-stored (row-line kind n line text)
+    → Err (Order (place line (n + 4))) ≡ padded-line (row-line kind n line text)
 row-out kind n line text ls row rest l h t =
-    let p = line-ok (numbers-line line ls text) row rest h in
+    let p = padded-line-ok (numbers-line line ls text) row rest h in
     row-at kind n line text ls (p .0) rest (Err (Order (place line (n + 4)))) l (p .1) (cond-true _ _ _ (misordered-same kind n (p .0) row (p .2) ∙ t))
 
 pub row-in : (kind : LawKind) (n line : ℕ) (text : List ℕ) (ls : List Limit) (row : List ℤ) (rest : List ℕ)
     → ls ≡ row-limits kind n → Ok (row, rest) ≡ padded-line (numbers-line line ls text) → misordered kind n row ≡ false
-    → Ok (row, rest) ≡ row-stored (row-line kind n line text)
+    → Ok (row, rest) ≡ padded-line (row-line kind n line text)
 row-in kind n line text ls row rest l h t =
-    let p = line-ok (numbers-line line ls text) row rest h in
+    let p = padded-line-ok (numbers-line line ls text) row rest h in
     ap (λ t. Ok (t, rest)) (p .2) ∙ row-at kind n line text ls (p .0) rest (Ok tt) l (p .1) (cond-false _ _ _ (misordered-same kind n (p .0) row (p .2) ∙ t))
-
--- a row read, as it is stored
-pub row-ok : (r : Result (List ℤ × List ℕ) LawFault) (row : List ℤ) (rest : List ℕ) → Ok (row, rest) ≡ row-stored r → (zs : List ℤ) × (r ≡ Ok (zs, rest)) × (row ≡ padded zs)
-row-ok (Ok p) row rest h =
-    let k : (row, rest) ≡ (padded (p .0), p .1) = ok-same (row, rest) (padded (p .0), p .1) h in
-    (p .0, ap (λ t. Ok (p .0, t)) (sym (ap (λ t. t .1) k)), ap (λ t. t .0) k)
-row-ok (Err d) row rest h = grind arith
-
-pub row-err : (r : Result (List ℤ × List ℕ) LawFault) (e : LawFault) → Err e ≡ row-stored r → r ≡ Err e
-row-err (Ok p) e h = grind arith
-row-err (Err d) e h = let k : d ≡ e = cc in ap Err k

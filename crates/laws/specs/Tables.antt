@@ -65,10 +65,6 @@ head-told (Ok p) = Ok (record { kind = p .0 .kind; states = p .0 .states; inputs
 head-told (Err e) = Err e
 
 -- rows read, as they are stored
-abbrev pub row-stored : Result (List ℤ × List ℕ) LawFault → Result (List ℤ × List ℕ) LawFault
-row-stored (Ok p) = Ok (padded (p .0), p .1)
-row-stored (Err e) = Err e
-
 abbrev pub rows-stored : Result (List (List ℤ) × List ℕ) LawFault → Result (List (List ℤ) × List ℕ) LawFault
 rows-stored (Ok p) = Ok (stored-rows (p .0), p .1)
 rows-stored (Err e) = Err e

@@ -1,10 +1,10 @@
 // The lines of a law text's inputs.
 ghost use mathlib.Core.Path.{_≡_};
 ghost use Prim.Native.Nat.{_≤_};
-ghost use Rattle.text.specs.Lines.{with-rest};
+ghost use Rattle.text.specs.Lines.{padded-line, with-rest};
 ghost use Rattle.laws.specs.Laws.{misordered, row-line, rows-of};
 ghost use Rattle.laws.specs.Limits.{row-limits};
-ghost use Rattle.laws.specs.Tables.{row-stored, rows-stored};
+ghost use Rattle.laws.specs.Tables.{rows-stored};
 use crate::faults::LawFault;
 use crate::faults::LawFaultFromText;
 use crate::head::LawHead;
@@ -70,7 +70,7 @@ fn read_row<'a>(
     states: usize,
 ) -> Result<([i64; 8], &'a [u8]), LawFault>
     requires { ⌜ states ≤ 4 ⌝ }
-    ensures { λ r. ⌜ with-rest r ≡ row-stored (row-line kind states line (now (text .entry))) ⌝ }
+    ensures { λ r. ⌜ with-rest r ≡ padded-line (row-line kind states line (now (text .entry))) ⌝ }
 {
     let (row, rest) = row_line(text, line, row_limits(kind, states))?;
     if is_misordered(kind, states, &row) {

@@ -65,11 +65,11 @@ row-ends line f i acc limits left r o h q inv =
     over acc (Ok t) = refl
     over acc (Err e) = refl
 
--- the rest of a row is zeros
-pub zeros-more : (i : ℕ) (row : List ℤ) (z : ℤ) → drop i row ≡ replicate (row-width - i) (pos 0) → drop (i + 1) (set row i z) ≡ replicate (row-width - (i + 1)) (pos 0)
-zeros-more i row z e =
-    drop-set-lt (i + 1) row i z (omega arith) ∙ sym (drop-drop 1 i row) ∙ ap (drop 1) e ∙ drop-replicate 1 (row-width - i) (pos 0)
-    ∙ ap (λ n. replicate n (pos 0)) (omega arith)
+-- what a list of w places has behind its first i, one place more
+pub rest-more : {X : Type 0} (w i : ℕ) (xs : List X) (x d : X) → drop i xs ≡ replicate (w - i) d → drop (i + 1) (set xs i x) ≡ replicate (w - (i + 1)) d
+rest-more w i xs x d e =
+    drop-set-lt (i + 1) xs i x (omega arith) ∙ sym (drop-drop 1 i xs) ∙ ap (drop 1) e ∙ drop-replicate 1 (w - i) d
+    ∙ ap (λ n. replicate n d) (omega arith)
 
 -- the numbers so far, and zeros behind them
 pub row-full : (i : ℕ) (row : List ℤ) → i ≤ length row → drop i row ≡ replicate (row-width - i) (pos 0) → row ≡ padded (take i row ++ [])
@@ -95,3 +95,14 @@ pub line-ok : (line : ℕ) (limits : List Limit) (text bytes rest : List ℕ) (l
     → Some (bytes, rest) ≡ cut-at line-feed text → left ≡ Some bytes → Ok row ≡ row-of line 0 limits left → Ok (row, rest) ≡ padded-line (numbers-line line limits text)
 line-ok line limits text bytes rest left row k l h =
     padded-ok (numbers-of line 1 limits (Some bytes)) row rest (h ∙ ap (row-of line 0 limits) l) ∙ ap (λ o. padded-line (numbers-by line limits o)) k
+
+-- what a padded line came from
+pub padded-line-err : {E : Type 0} (r : Result (List ℤ × List ℕ) E) (e : E) → Err e ≡ padded-line r → r ≡ Err e
+padded-line-err (Ok p) e h = grind arith
+padded-line-err (Err d) e h = let k : d ≡ e = cc in ap Err k
+
+pub padded-line-ok : {E : Type 0} (r : Result (List ℤ × List ℕ) E) (row : List ℤ) (rest : List ℕ) → Ok (row, rest) ≡ padded-line r → (zs : List ℤ) × (r ≡ Ok (zs, rest)) × (row ≡ padded zs)
+padded-line-ok (Ok p) row rest h =
+    let k : _≡_ {A = List ℤ × List ℕ} (row, rest) (padded (p .0), p .1) = cc in
+    (p .0, ap (λ t. Ok (p .0, t)) (sym (ap (λ t. t .1) k)), ap (λ t. t .0) k)
+padded-line-ok (Err d) row rest h = grind arith

@@ -103,7 +103,7 @@ numbers-by line limits (Some p) = bind (numbers-of line 1 limits (Some (p .0))) 
 abbrev pub numbers-line : ℕ → List Limit → List ℕ → Result (List ℤ × List ℕ) TextFault
 numbers-line line limits text = numbers-by line limits (cut-at line-feed text)
 
-abbrev pub padded-line : Result (List ℤ × List ℕ) TextFault → Result (List ℤ × List ℕ) TextFault
+abbrev pub padded-line : {E : Type 0} → Result (List ℤ × List ℕ) E → Result (List ℤ × List ℕ) E
 padded-line (Ok p) = Ok (padded (p .0), p .1)
 padded-line (Err e) = Err e
 

@@ -11,13 +11,13 @@ use Rattle.text.specs.Left.{left-of}
 use Rattle.text.specs.Lines.{next-field, after-field}
 use Rattle.laws.specs.Laws.{kind-at}
 use Rattle.laws.specs.Tables.{head-told}
-use Rattle.laws.proofs.Exits.{law-err}
+use Rattle.text.proofs.Rows.{err-is}
 use Rattle.laws.proofs.Heading.{head-absent, head-word, head-err, head-ok, sizes-are, size-small}
 use Rattle.laws.proofs.head.read_head.Needs as need
 
 pub returns-in-Break-sizes : need.returns-in-Break-sizes
 returns-in-Break-sizes c = record {
-  value = ap head-told (law-err (c .from-residual .result) _ (c .from-residual .ensures .1))
+  value = ap head-told (err-is (c .from-residual .result) _ (c .from-residual .ensures .1))
       ∙ head-err (c .args .text .now) (c .in-Some .bytes .now) (c .in-Some .rest .now) (c .in-Some-next-kind .kind) _ _ (c .in-Some .ensures tt)
       (c .in-Some-next-kind .ensures tt .value ∙ ap (λ l. kind-at (next-field l)) (c .of-fields .ensures))
       (c .next-kind .ensures .left ∙ ap after-field (c .of-fields .ensures)) (c .in-Break-sizes .ensures tt);

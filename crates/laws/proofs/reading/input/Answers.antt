@@ -7,7 +7,8 @@ use lib.ListN.{length, length-set, getD}
 use mir.Val.{SFits}
 use mir.Syntax.{w64}
 use Rattle.std.proofs.shelf.Signed.{toZ-ofZ}
-use Rattle.laws.proofs.Storing.{gains-more, gains-full, zeros-more, input-is}
+use Rattle.laws.proofs.Storing.{gains-more, input-is}
+use Rattle.text.proofs.Rows.{rest-more}
 use Rattle.laws.proofs.reading.input.Needs as need
 
 pub loop-i-again : need.loop-i-again
@@ -17,7 +18,7 @@ loop-i-again c =
     simp toZ-ofZ (
       length-set (c .loop-i .gains) (c .loop-i .i) _ ∙ c .loop-i .inv .0,
       gains-more (c .loop-i .gains) (c .args .row .now) (c .loop-i .i) (omega arith) k (c .loop-i .inv .1),
-      zeros-more 4 (c .loop-i .i) (c .loop-i .gains) _ (c .loop-i .inv .2),
+      rest-more 4 (c .loop-i .i) (c .loop-i .gains) _ (pos 0) (c .loop-i .inv .2),
     )
 
 pub returns : need.returns

@@ -16,7 +16,7 @@ use Rattle.text.specs.Left.{left-of}
 use Rattle.text.specs.Lines.{bind, numbers-of, next-number, end-of, place, padded, row-of, row-width}
 use Rattle.text.specs.declared.number.Limit.{Limit}
 use Rattle.text.specs.declared.faults.TextFault.{TextFault}
-use Rattle.text.proofs.Rows.{onto, onto-none, err-is, row-more, row-stops, row-ends, row-full, zeros-more}
+use Rattle.text.proofs.Rows.{onto, onto-none, err-is, row-more, row-stops, row-ends, row-full, rest-more}
 use Rattle.text.proofs.fields.Fields.row.Needs as need
 
 -- the row of the limits that are used
@@ -53,7 +53,7 @@ loop-i-again c =
     let f : SFits w64 (c .in-Continue-row .field-0) = search needs in
     simp (toZ-ofZ, g) (
       length-set (c .loop-i .row) (c .loop-i .i) (c .in-Continue-row .field-0) ∙ c .loop-i .inv .0,
-      zeros-more (c .loop-i .i) (c .loop-i .row) (c .in-Continue-row .field-0) (c .loop-i .inv .1),
+      rest-more row-width (c .loop-i .i) (c .loop-i .row) (c .in-Continue-row .field-0) (pos 0) (c .loop-i .inv .1),
       row-more (c .args .line) _ (c .loop-i .i) (c .loop-i .row) (c .row-limits-used .result .now) none (left-of (c .loop-i .self)) _ _ _ (c .loop-i-test .taken) (omega arith)
           (h .value ∙ ap (λ f. next-number (place (c .args .line) f) (getD (c .row-limits-used .result .now) (c .loop-i .i) none) (left-of (c .loop-i .self))) e) (h .left) (c .loop-i .inv .2),
     )
