@@ -1,0 +1,3 @@
+// Examples of the saturated law and the fixed law: commands, regions, rows and refusals.
+#[cfg(test)]
+mod tests;
