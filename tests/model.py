@@ -518,13 +518,14 @@ def check(case, law):
 # Verdicts
 
 
-def law_verdict(data):
-    """The verdict on a law text alone, whatever follows it."""
+def read_verdict(data):
+    """The verdict on both texts when the proof lines are not looked at."""
     try:
-        law, _ = read_law(data)
+        law, rest = read_law(data)
+        case = read_case(rest)
     except Fault as fault:
         return fault.told()
-    return f"read none 0 0 {law.regions()} 0 0"
+    return f"read none 0 0 {law.regions()} {len(case.faces())} 0"
 
 
 def verdict(data):

@@ -7,13 +7,12 @@ use Rattle.control.specs.Meaning.{Meaning}
 use Rattle.laws.specs.Laws.{law-of}
 use Rattle.laws.specs.Controllers.{law-meaning}
 use Rattle.laws.proofs.Controlling.{law-limits}
-use Rattle.report.specs.declared.verdict.Verdict.the-variants.{Read}
-use Rattle.judge.specs.Judging.{verdict-by}
+use Rattle.judge.specs.Judging.{case-verdict, verdict-by}
 use Rattle.judge.proofs.Known.{meant}
 use Rattle.judge.proofs.judge_text.Needs as need
 
-pub cast-result : need.cast-result
-cast-result c = let few = law-limits (c .in-Some .law) .regions-high in let e = c .regions .ensures in record { fits = omega arith }
+pub cast-regions : need.cast-regions
+cast-regions c = let few = law-limits (c .in-Some .law) .regions-high in let e = c .regions .ensures in record { fits = omega arith }
 
 pub unreachable-requires : need.unreachable-requires
 unreachable-requires c κs =
@@ -25,5 +24,6 @@ pub returns-in-Some : need.returns-in-Some
 returns-in-Some c =
     let h = c .in-Ok .ensures tt in
     let m = meant (c .args .text .now) (c .in-Ok .states) (c .in-Ok .inputs) _ _ (c .read-law .last .place) (h .value) (h .place) (h .meant) in
-    ap (λ n. Read n 0) (c .regions .ensures ∙ ap (λ (t : Meaning). length (t .regions)) (c .in-Some .ensures tt .held ∙ m .meaning-is))
+    c .judge-case .ensures
+    ∙ ap (λ n. case-verdict n (c .in-Ok .rest .now)) (c .regions .ensures ∙ ap (λ (t : Meaning). length (t .regions)) (c .in-Some .ensures tt .held ∙ m .meaning-is))
     ∙ ap verdict-by (sym (m .was))

@@ -1,0 +1,11 @@
+pub mod Collecting
+pub mod Composing
+pub mod Exits
+pub mod Filling
+pub mod Finishing
+pub mod Judging
+pub mod Keeping
+pub mod Lines
+pub mod Measuring
+pub mod Rendering
+pub mod Storing

@@ -1,0 +1,10 @@
+pub mod Faces
+pub mod Fields
+pub mod Forms
+pub mod Limits
+pub mod Next
+pub mod Reports
+pub mod Stored
+pub mod System
+pub mod Texts
+pub mod Values

@@ -1,0 +1,4 @@
+-- The lemmas of the crate.
+pub mod Farkas
+pub mod Soundness
+pub mod Tested

@@ -1,0 +1,4 @@
+-- The definitions of the crate.
+pub mod Certificates
+pub mod Sound
+pub mod Tests

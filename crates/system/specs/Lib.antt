@@ -1,0 +1,4 @@
+-- The definitions of the crate.
+pub mod Bridge
+pub mod Answers
+pub mod Filled
