@@ -1,4 +1,6 @@
 // Bounds of integers and products of lists of integers.
+#![tactic(auto)]
+
 ghost use Rattle.std.specs.Prelude.{◌≡◌, ◌≤◌, length};
 ghost use Rattle.std.specs.List.{AllByRecursion as All};
 ghost use Rattle.arith.specs.Bounds.{Within, within, all_within};

@@ -1,4 +1,6 @@
 // Cases: the loop on whole numbers, with its bounds, its faces and the part of the text that holds the proof lines.
+#![tactic(auto)]
+
 pub mod equations;
 pub mod faults;
 pub mod limits;

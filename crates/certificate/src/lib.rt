@@ -1,4 +1,6 @@
 // Certificates after Farkas: the test of a proof of one face, and that a certificate makes the set of a case invariant.
+#![tactic(auto)]
+
 ghost use Rattle.certificate.specs.Sound.{CertificatesSound};
 
 mod fault;

@@ -1,4 +1,6 @@
 // Controllers: the interface, the fixed law and the saturated law.
+#![tactic(auto)]
+
 mod controller;
 mod covered;
 mod fault;

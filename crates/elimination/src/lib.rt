@@ -1,4 +1,6 @@
 // The rows of a Fourier-Motzkin elimination: combined exactly, held against limits, one column at a time.
+#![tactic(auto)]
+
 mod column;
 mod divisor;
 mod lists;

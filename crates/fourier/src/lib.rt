@@ -1,4 +1,6 @@
 // Fourier-Motzkin elimination over rows of any type: its definitions and its theorems.
+#![tactic(auto)]
+
 ghost use Rattle.fourier.specs.Theorems.{ColumnKeeps, DropKeeps, SameAnswer, NothingIsNone, FoundRefutes, StopsExactly};
 
 // Carries the theorems, for rows of type X and faults of type F, until a call does.

@@ -1,4 +1,6 @@
 // The call for a host in C.
+#![tactic(auto)]
+
 ghost use Rattle.std.specs.Prelude.{◌≡◌};
 ghost use Rattle.text.specs.Forms.{Iff};
 ghost use Rattle.judgement.specs.Forms.{Acceptable, InvariantText};

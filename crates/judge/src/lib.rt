@@ -1,4 +1,6 @@
 // From the bytes of a law text with a case text directly after it to a verdict.
+#![tactic(auto)]
+
 ghost use Rattle.std.specs.Prelude.{◌≡◌, ◌≤◌};
 ghost use Rattle.judge.specs.Judging.{case_verdict, verdict_of};
 

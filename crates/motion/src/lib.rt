@@ -1,4 +1,6 @@
 // The state of a case against its faces, and where it moves next.
+#![tactic(auto)]
+
 mod faces;
 mod next;
 mod products;

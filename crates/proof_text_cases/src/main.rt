@@ -4,6 +4,8 @@
 // feed, `\\` for a backslash, and `\xHH` for the byte with these two hexadecimal digits. A size of 0 takes the text as it
 // stands; another size, up to 60,001, fills the text up to that many bytes with the byte `x`. The output has for each
 // case the second line of the record of its verdict.
+#![tactic(auto)]
+
 ghost use Rattle.std.specs.Prelude.{◌<◌, length, IfSome};
 
 use anyhow::{Context, anyhow};

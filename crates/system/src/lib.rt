@@ -1,4 +1,6 @@
 // The system of a region: its size and its rows.
+#![tactic(auto)]
+
 mod fault;
 mod fill;
 mod kinds;

@@ -1,4 +1,6 @@
 // Texts: byte classes, numbers, fields and lines, with the place of the first fault.
+#![tactic(auto)]
+
 pub mod bytes;
 pub mod faults;
 pub mod fields;

@@ -1,4 +1,6 @@
 // Reads a law text with a case text directly after it from standard input, and prints the verdict.
+#![tactic(auto)]
+
 ghost use Rattle.std.specs.Prelude.{◌≤◌, length, IfOk};
 
 use judge::judge_text;

@@ -17,7 +17,7 @@ pub loop-value-preserved : goal.loop-value-preserved
 loop-value-preserved c =
     let f : SFits w64 (get_or c.args.values.now c.loop-value.value-index (pos 0)) = search rules in
     let holds : within c.args.limit (get_or c.args.values.now c.loop-value.value-index (pos 0)) ≡ true =
-    ap (within c.args.limit) (sym (to_z-of_z w64 _ f)) ∙ sym c.if-not-is-within.ensures in
+    ap (within c.args.limit) (sym (to_z-of_z w64 _ f)) ∙ sym c.if-not-is_within.ensures in
     sym (all_within_in c.args.limit c.args.values.now c.loop-value.value-index c.loop-value-test.true holds) ∙ c.loop-value.invariant
 
 pub returns : goal.returns

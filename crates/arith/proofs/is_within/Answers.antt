@@ -6,5 +6,5 @@ use Rattle.arith.proofs.is_within.Goals as goal
 
 pub returns : goal.returns
 returns c =
-    ap (λ n. leb n c.args.limit) (c.unsigned-abs.ensures.value ∙ ap nat_abs (to_z-of_z w64 _ c.ranges.value))
+    ap (λ n. leb n c.args.limit) (c.unsigned_abs.ensures.value ∙ ap nat_abs (to_z-of_z w64 _ c.ranges.value))
     ∙ within_is c.args.limit c.args.value

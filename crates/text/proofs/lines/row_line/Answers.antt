@@ -19,6 +19,6 @@ returns-in-err-row c = record {
 
 pub returns : goal.returns
 returns c = record {
-  value = line_ok c.args.line (take row_width c.args.limits.now) c.args.text.now c.in-Some.bytes.now c.in-Some.rest.now _ _ c.in-Some.ensures c.of.ensures c.in-ok-row.ensures;
+  value = line_ok c.args.line (take row_width c.args.limits.now) c.args.text.now c.in-Some.bytes.now c.in-Some.rest.now _ _ c.in-Some.ensures c.of.ensures c.in_ok-row.ensures;
   form = row_form (take row_width c.args.limits.now) c.args.text.now;
 }

@@ -14,7 +14,7 @@ returns-in-default c =
 pub loop-b-preserved : goal.loop-b-preserved
 loop-b-preserved c = (
   omega arith,
-  more_digits c.args.digits.now c.loop-b.b-index c.loop-b.value c.saturating-add-value.result c.in-Digit.d _ c.loop-b-test.true
+  more_digits c.args.digits.now c.loop-b.b-index c.loop-b.value c.saturating_add-value.result c.in-Digit.d _ c.loop-b-test.true
       (search rules) (search rules) c.loop-b.invariant.1,
 )
 

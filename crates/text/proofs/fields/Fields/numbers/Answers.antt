@@ -23,7 +23,7 @@ loop-i-init g c =
     let e : c.args.before + 0 + 1 ≡ c.args.before + 1 = omega arith in (
       length-replicate g.row.N (pos 0),
       ap (λ n. replicate n (pos 0)) (sym (sub-zero g.row.N)),
-      ap (λ f. onto [] (numbers_of c.args.line f c.row-limits-used.result.now (left_of c.args.self))) e ∙ onto_none _,
+      ap (λ f. onto [] (numbers_of c.args.line f c.row_limits-used.result.now (left_of c.args.self))) e ∙ onto_none _,
     )
 
 pub returns-in-err-row : goal.returns-in-err-row
@@ -38,15 +38,15 @@ returns-in-err-row g c =
 
 pub loop-i-preserved : goal.loop-i-preserved
 loop-i-preserved g c =
-    let h = c.in-ok-row.ensures in
+    let h = c.in_ok-row.ensures in
     let e : c.from.result + c.loop-i.i + 1 ≡ c.args.before + c.loop-i.i + 1 = omega arith in
     let n : c.args.before + (c.loop-i.i + 1) + 1 ≡ c.args.before + c.loop-i.i + 1 + 1 = omega arith in
-    let f : SFits w64 c.in-ok-row.field-0 = search rules in
+    let f : SFits w64 c.in_ok-row.field-0 = search rules in
     simp (to_z-of_z, n) (
-      length-set c.loop-i.row c.loop-i.i c.in-ok-row.field-0 ∙ c.loop-i.invariant.0,
-      rest_more g.row.N c.loop-i.i c.loop-i.row c.in-ok-row.field-0 (pos 0) c.loop-i.invariant.1,
-      row_more c.args.line _ c.loop-i.i c.loop-i.row c.row-limits-used.result.now none (left_of c.loop-i.self) _ _ _ c.loop-i-test.true (omega arith)
-          (h.value ∙ ap (λ f. next_number (place c.args.line f) (get_or c.row-limits-used.result.now c.loop-i.i none) (left_of c.loop-i.self)) e) h.left c.loop-i.invariant.2,
+      length-set c.loop-i.row c.loop-i.i c.in_ok-row.field-0 ∙ c.loop-i.invariant.0,
+      rest_more g.row.N c.loop-i.i c.loop-i.row c.in_ok-row.field-0 (pos 0) c.loop-i.invariant.1,
+      row_more c.args.line _ c.loop-i.i c.loop-i.row c.row_limits-used.result.now none (left_of c.loop-i.self) _ _ _ c.loop-i-test.true (omega arith)
+          (h.value ∙ ap (λ f. next_number (place c.args.line f) (get_or c.row_limits-used.result.now c.loop-i.i none) (left_of c.loop-i.self)) e) h.left c.loop-i.invariant.2,
     )
 
 pub returns-in-err-end : goal.returns-in-err-end
@@ -62,11 +62,11 @@ returns-in-err-end g c =
 
 pub returns : goal.returns
 returns g c =
-    let k : c.loop-i.i ≡ length c.row-limits-used.result.now = omega arith in
-    let e : c.from-2.result + length c.row-limits-used.result.now + 1 ≡ c.args.before + c.loop-i.i + 1 = omega arith in
+    let k : c.loop-i.i ≡ length c.row_limits-used.result.now = omega arith in
+    let e : c.from-2.result + length c.row_limits-used.result.now + 1 ≡ c.args.before + c.loop-i.i + 1 = omega arith in
     record {
       value = ap Ok (row_full_to g.row.N c.loop-i.i c.loop-i.row (omega arith) c.loop-i.invariant.1)
-          ∙ over g.row.N c.args.line c.args.before c.row-limits-used.result.now c.args.limits.now (left_of c.args.self) _ c.row-limits-used.ensures.value
-          (row_ends c.args.line _ c.loop-i.i (take c.loop-i.i c.loop-i.row) c.row-limits-used.result.now (left_of c.loop-i.self) _ _ c.loop-i-test.false
-          (c.in-ok-end.ensures ∙ ap (λ f. end_of (place c.args.line f) (left_of c.loop-i.self)) e) c.loop-i.invariant.2);
+          ∙ over g.row.N c.args.line c.args.before c.row_limits-used.result.now c.args.limits.now (left_of c.args.self) _ c.row_limits-used.ensures.value
+          (row_ends c.args.line _ c.loop-i.i (take c.loop-i.i c.loop-i.row) c.row_limits-used.result.now (left_of c.loop-i.self) _ _ c.loop-i-test.false
+          (c.in_ok-end.ensures ∙ ap (λ f. end_of (place c.args.line f) (left_of c.loop-i.self)) e) c.loop-i.invariant.2);
     }
