@@ -6,11 +6,11 @@ use Rattle.arith.specs.Bounds.{within, all_within}
 use Rattle.arith.proofs.Bounds.{all_within_in, all_within_out}
 use Rattle.arith.proofs.all_within.Goals as goal
 
-pub returns-then-not-is-within : goal.returns-then-not-is-within
-returns-then-not-is-within c =
+pub returns-then-not-is_within : goal.returns-then-not-is_within
+returns-then-not-is_within c =
     let f : SFits w64 (get_or c.args.values.now c.loop-value.value-index (pos 0)) = search rules in
     let no : within c.args.limit (get_or c.args.values.now c.loop-value.value-index (pos 0)) ≡ false =
-    ap (within c.args.limit) (sym (to_z-of_z w64 _ f)) ∙ sym c.if-not-is-within.ensures in
+    ap (within c.args.limit) (sym (to_z-of_z w64 _ f)) ∙ sym c.if-not-is_within.ensures in
     sym (sym c.loop-value.invariant ∙ all_within_out c.args.limit c.args.values.now c.loop-value.value-index c.loop-value-test.true no)
 
 pub loop-value-preserved : goal.loop-value-preserved

@@ -5,11 +5,11 @@ use Rattle.arith.proofs.Dots.{dot_end}
 use Rattle.arith.proofs.Sums.{turn, turned, product_fits, sum_fits}
 use Rattle.arith.proofs.dot_product.Goals as goal
 
-pub overflow-mul-sum : goal.overflow-mul-sum
-overflow-mul-sum c = product_fits _ _ _ _ _ _ (turn c.args.a.now c.args.b.now c.loop-i.i _ c.loop-i-test.true c.requires.same c.requires.few c.requires.first c.requires.second c.loop-i.invariant)
+pub overflow_mul-sum : goal.overflow_mul-sum
+overflow_mul-sum c = product_fits _ _ _ _ _ _ (turn c.args.a.now c.args.b.now c.loop-i.i _ c.loop-i-test.true c.requires.same c.requires.few c.requires.first c.requires.second c.loop-i.invariant)
 
-pub overflow-add-sum : goal.overflow-add-sum
-overflow-add-sum c = sum_fits _ _ _ _ _ _ (turn c.args.a.now c.args.b.now c.loop-i.i _ c.loop-i-test.true c.requires.same c.requires.few c.requires.first c.requires.second c.loop-i.invariant)
+pub overflow_add-sum : goal.overflow_add-sum
+overflow_add-sum c = sum_fits _ _ _ _ _ _ (turn c.args.a.now c.args.b.now c.loop-i.i _ c.loop-i-test.true c.requires.same c.requires.few c.requires.first c.requires.second c.loop-i.invariant)
 
 pub loop-i-preserved : goal.loop-i-preserved
 loop-i-preserved c = turned _ _ _ _ _ _ (turn c.args.a.now c.args.b.now c.loop-i.i _ c.loop-i-test.true c.requires.same c.requires.few c.requires.first c.requires.second c.loop-i.invariant)

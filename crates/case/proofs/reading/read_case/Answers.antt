@@ -9,16 +9,16 @@ use Rattle.case.proofs.Rendering.{case_form}
 use Rattle.case.proofs.Storing.{equations_stored, bounds_stored, extras_stored, all_stored, values_back, lengths_are, limits_are, wide_is}
 use Rattle.case.proofs.reading.read_case.Goals as goal
 
-pub invariant-of-place : goal.invariant-of-place
-invariant-of-place c =
-    let k = c.in-ok-sizes.sizes in
-    let rows = c.in-ok-rows.rows in
-    let h = c.in-ok-sizes.ensures.kept in
-    let r = body_taken c.args.text.now k c.in-ok-sizes.rest.now c.in-ok-sizes.ensures.value rows c.in-ok-rows.proofs.now c.in-ok-rows.ensures in
+pub invariant_of-place : goal.invariant_of-place
+invariant_of-place c =
+    let k = c.in_ok-sizes.sizes in
+    let rows = c.in_ok-rows.rows in
+    let h = c.in_ok-sizes.ensures.kept in
+    let r = body_taken c.args.text.now k c.in_ok-sizes.rest.now c.in_ok-sizes.ensures.value rows c.in_ok-rows.proofs.now c.in_ok-rows.ensures in
     let d = divisor_back k h in
     let a = c.equations.ensures ∙ equations_stored r.t r.kept k r.sizes rows r.held in
     let b = c.bounds.ensures ∙ bounds_stored r.t r.kept k r.sizes rows r.held in
-    let x = c.extra-faces.ensures ∙ extras_stored r.t r.kept k r.sizes rows r.held in (
+    let x = c.extra_faces.ensures ∙ extras_stored r.t r.kept k r.sizes rows r.held in (
       (h.states_low, h.states_high, h.inputs_low, h.inputs_high),
       (
         (h.pushes_high, h.extras_high),
@@ -32,21 +32,21 @@ invariant-of-place c =
       ),
     )
 
-pub returns-in-err-sizes : goal.returns-in-err-sizes
-returns-in-err-sizes c =
-    let e = sizes_refused c.args.text.now _ c.in-err-sizes.ensures.value in
+pub returns-in_err-sizes : goal.returns-in_err-sizes
+returns-in_err-sizes c =
+    let e = sizes_refused c.args.text.now _ c.in_err-sizes.ensures.value in
     record {
-      value = err_is c.from-residual.result _ c.from-residual.ensures.1 ∙ ap answer_of (sym e);
+      value = err_is c.from_residual.result _ c.from_residual.ensures.1 ∙ ap answer_of (sym e);
       place = ap (stored_after (stored c.args.place.now)) (sym e);
       meant = refused_meant (case_of c.args.text.now) _ _ e;
       form = case_form c.args.text.now;
     }
 
-pub returns-in-err-rows : goal.returns-in-err-rows
-returns-in-err-rows c =
-    let e = body_refused c.args.text.now c.in-ok-sizes.sizes c.in-ok-sizes.rest.now c.in-ok-sizes.ensures.value _ c.in-err-rows.ensures in
+pub returns-in_err-rows : goal.returns-in_err-rows
+returns-in_err-rows c =
+    let e = body_refused c.args.text.now c.in_ok-sizes.sizes c.in_ok-sizes.rest.now c.in_ok-sizes.ensures.value _ c.in_err-rows.ensures in
     record {
-      value = err_is c.from-residual-in-err-rows.result _ c.from-residual-in-err-rows.ensures.1 ∙ ap answer_of (sym e);
+      value = err_is c.from_residual-in_err-rows.result _ c.from_residual-in_err-rows.ensures.1 ∙ ap answer_of (sym e);
       place = ap (stored_after (stored c.args.place.now)) (sym e);
       meant = refused_meant (case_of c.args.text.now) _ _ e;
       form = case_form c.args.text.now;
@@ -54,17 +54,17 @@ returns-in-err-rows c =
 
 pub returns : goal.returns
 returns c =
-    let k = c.in-ok-sizes.sizes in
-    let rows = c.in-ok-rows.rows in
-    let proofs = c.in-ok-rows.proofs.now in
-    let r = body_taken c.args.text.now k c.in-ok-sizes.rest.now c.in-ok-sizes.ensures.value rows proofs c.in-ok-rows.ensures in
-    let d = divisor_back k c.in-ok-sizes.ensures.kept in
+    let k = c.in_ok-sizes.sizes in
+    let rows = c.in_ok-rows.rows in
+    let proofs = c.in_ok-rows.proofs.now in
+    let r = body_taken c.args.text.now k c.in_ok-sizes.rest.now c.in_ok-sizes.ensures.value rows proofs c.in_ok-rows.ensures in
+    let d = divisor_back k c.in_ok-sizes.ensures.kept in
     let a = c.equations.ensures ∙ equations_stored r.t r.kept k r.sizes rows r.held in
     let b = c.bounds.ensures ∙ bounds_stored r.t r.kept k r.sizes rows r.held in
-    let x = c.extra-faces.ensures ∙ extras_stored r.t r.kept k r.sizes rows r.held in
+    let x = c.extra_faces.ensures ∙ extras_stored r.t r.kept k r.sizes rows r.held in
     record {
       value = ap answer_of (sym r.was);
-      place = all_stored r.t r.kept k r.sizes _ _ _ _ d a b x proofs c.first-proof.result c.first-proof.ensures ∙ ap (stored_after (stored c.args.place.now)) (sym r.was);
+      place = all_stored r.t r.kept k r.sizes _ _ _ _ d a b x proofs c.first_proof.result c.first_proof.ensures ∙ ap (stored_after (stored c.args.place.now)) (sym r.was);
       meant = read_meant (case_of c.args.text.now) r.t proofs _ r.was (values_back r.t r.kept k r.sizes _ _ _ _ d a b x);
       form = case_form c.args.text.now;
     }

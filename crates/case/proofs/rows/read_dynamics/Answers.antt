@@ -11,6 +11,6 @@ pub returns : goal.returns
 returns c =
     let k = c.args.sizes in
     let few : k.states + k.inputs + k.pushes ≤ row_width = omega (arith, c.requires.states_high, c.requires.inputs_high, c.requires.pushes_high) in
-    c.read-section.ensures
+    c.read_section.ensures
     ∙ ap (λ l. rows_stored (section_of dynamics_names l Nothing k.states (5 + k.states + k.pushes) c.args.text.now))
-    (dynamics_whole (k.states + k.inputs + k.pushes) c.dynamics-limits-limits.result.now few c.dynamics-limits-limits.ensures)
+    (dynamics_whole (k.states + k.inputs + k.pushes) c.dynamics_limits-limits.result.now few c.dynamics_limits-limits.ensures)

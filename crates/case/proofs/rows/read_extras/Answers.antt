@@ -9,6 +9,6 @@ use Rattle.case.proofs.rows.read_extras.Goals as goal
 pub returns : goal.returns
 returns c =
     let k = c.args.sizes in
-    c.read-section.ensures
+    c.read_section.ensures
     ∙ ap (λ l. rows_stored (section_of extra_names l Nothing k.extras (6 + 2 * k.states + k.pushes) c.args.text.now))
-    (extra_whole k.states c.extra-limits-limits.result.now c.requires.states_high c.extra-limits-limits.ensures)
+    (extra_whole k.states c.extra_limits-limits.result.now c.requires.states_high c.extra_limits-limits.ensures)

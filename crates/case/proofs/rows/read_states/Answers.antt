@@ -9,5 +9,5 @@ use Rattle.case.proofs.rows.read_states.Goals as goal
 
 pub returns : goal.returns
 returns c =
-    c.read-section.ensures
+    c.read_section.ensures
     ∙ ap (λ d. rows_stored (section_of state_names state_limits (State d) c.args.sizes.states 3 c.args.text.now)) (divisor_back c.args.sizes c.requires)

@@ -6,15 +6,15 @@ use Rattle.certificate.specs.Tests.{in_limit, all_in_limit}
 use Rattle.certificate.proofs.Tested.{limit_turn}
 use Rattle.certificate.proofs.proof.all_in_limit.Goals as goal
 
-pub returns-then-not-in-limit : goal.returns-then-not-in-limit
-returns-then-not-in-limit c =
+pub returns-then-not-in_limit : goal.returns-then-not-in_limit
+returns-then-not-in_limit c =
     let f : SFits w64 (get_or c.args.values.now c.loop-value.value-index (pos 0)) = search rules in
-    record { value = sym (limit_turn c.args.values.now c.loop-value.value-index _ c.loop-value-test.true (ap in_limit (sym (to_z-of_z w64 _ f)) ∙ sym c.if-not-in-limit.ensures.value)) ∙ c.loop-value.invariant }
+    record { value = sym (limit_turn c.args.values.now c.loop-value.value-index _ c.loop-value-test.true (ap in_limit (sym (to_z-of_z w64 _ f)) ∙ sym c.if-not-in_limit.ensures.value)) ∙ c.loop-value.invariant }
 
 pub loop-value-preserved : goal.loop-value-preserved
 loop-value-preserved c =
     let f : SFits w64 (get_or c.args.values.now c.loop-value.value-index (pos 0)) = search rules in
-    sym (limit_turn c.args.values.now c.loop-value.value-index _ c.loop-value-test.true (ap in_limit (sym (to_z-of_z w64 _ f)) ∙ sym c.if-not-in-limit.ensures.value)) ∙ c.loop-value.invariant
+    sym (limit_turn c.args.values.now c.loop-value.value-index _ c.loop-value-test.true (ap in_limit (sym (to_z-of_z w64 _ f)) ∙ sym c.if-not-in_limit.ensures.value)) ∙ c.loop-value.invariant
 
 pub returns : goal.returns
 returns c = record { value = sym (at_drop_all all_in_limit c.args.values.now c.loop-value.value-index c.loop-value-test.false) ∙ c.loop-value.invariant }

@@ -12,8 +12,8 @@ use Rattle.certificate.proofs.proof.is_excess.Goals as goal
 scaled_right : (scale right : ℤ) → Within multiplier_limit scale → Within right_limit right → Computed (pos 0) scale right
 scaled_right scale right limit small = computed 0 multiplier_limit right_limit (pos 0) scale right (lit< tt) (lit< tt) (lit< tt) (omega (arith, ints), omega (arith, ints)) limit small
 
-pub overflow-mul-scale : goal.overflow-mul-scale
-overflow-mul-scale c = (scaled_right c.args.scale c.args.right c.requires.scale c.requires.right).product_fits
+pub overflow_mul-scale : goal.overflow_mul-scale
+overflow_mul-scale c = (scaled_right c.args.scale c.args.right c.requires.scale c.requires.right).product_fits
 
 pub returns-then-sum-scale : goal.returns-then-sum-scale
 returns-then-sum-scale c =

@@ -22,14 +22,14 @@ use Rattle.certificate.proofs.proof.test_equations.Goals as goal
 
 -- what the controller means
 abbrev meant : (g : given.Over) → g.row.C.Denot → Meaning
-meant g k = meaning (g.C.Controller.states k) (g.C.Controller.inputs k) (g.C.Controller.partition k) (g.C.Controller.feedback k)
+meant g k = meaning (g.row.C.Controller.states k) (g.row.C.Controller.inputs k) (g.row.C.Controller.partition k) (g.row.C.Controller.feedback k)
 
 -- region and face are there
-ready_of : (g : given.Over) (k : g.row.C.Denot) (v : Case) (region face : ℕ) → g.C.Controller.states k ≡ v.states → g.C.Controller.inputs k ≡ v.inputs → present (g.C.Controller.partition k) region ≡ true → present (faces (values_of v)) face ≡ true → FaceReady v (meant g k) region face
+ready_of : (g : given.Over) (k : g.row.C.Denot) (v : Case) (region face : ℕ) → g.row.C.Controller.states k ≡ v.states → g.row.C.Controller.inputs k ≡ v.inputs → present (g.row.C.Controller.partition k) region ≡ true → present (faces (values_of v)) face ≡ true → FaceReady v (meant g k) region face
 ready_of g k v region face es ei there on = record { ready = record { states = es; inputs = ei; there = there }; limits = g.met.C.Controller.limits k; there = on }
 
-pub add-up-sum-requires : goal.add-up-sum-requires
-add-up-sum-requires g c =
+pub add_up-sum-requires : goal.add_up-sum-requires
+add_up-sum-requires g c =
     let v = c.args.case.now in
     record { states = c.requires.states; inputs = c.requires.inputs; region = c.requires.region; long = c.requires.long; limits = c.requires.limits; clear = blank_is v (v.states + v.inputs + v.pushes + v.states) (case_columns v) }
 
@@ -40,32 +40,32 @@ unwrap-right-requires g c =
     let t = ready_of g c.args.controller.now v c.args.region c.args.face c.requires.states c.requires.inputs c.requires.region c.requires.face in
     row_ok v _ c.args.region t.ready c.args.face _ c.system_row.result (face_low t) (face_high t) (blank_long v n (case_columns v)) c.system_row.ensures.answer
 
-pub slice-bounds-first-unequal-end : goal.slice-bounds-first-unequal-end
-slice-bounds-first-unequal-end g c =
+pub slice_bounds-first_unequal-end : goal.slice_bounds-first_unequal-end
+slice_bounds-first_unequal-end g c =
     let v = c.args.case.now in
     let n = v.states + v.inputs + v.pushes + v.states in
     let t = ready_of g c.args.controller.now v c.args.region c.args.face c.requires.states c.requires.inputs c.requires.region c.requires.face in
-    let h : n ≤ length (c.add-up-sum.new.sums ++ drop (n - 0) (none 12)) = omega (arith, length-append c.add-up-sum.new.sums (drop (n - 0) (none 12)), sums_long t c.args.multipliers.now c.add-up-sum.ensures.columns) in
+    let h : n ≤ length (c.add_up-sum.new.sums ++ drop (n - 0) (none 12)) = omega (arith, length-append c.add_up-sum.new.sums (drop (n - 0) (none 12)), sums_long t c.args.multipliers.now c.add_up-sum.ensures.columns) in
     h
 
-pub slice-bounds-first-unequal-end-2 : goal.slice-bounds-first-unequal-end-2
-slice-bounds-first-unequal-end-2 g c =
+pub slice_bounds-first_unequal-end-2 : goal.slice_bounds-first_unequal-end-2
+slice_bounds-first_unequal-end-2 g c =
     let v = c.args.case.now in
     let n = v.states + v.inputs + v.pushes + v.states in
     let h : v.states ≤ length (c.system_row.new.coefficients ++ drop (n - 0) (none 12)) = omega (arith, length-append c.system_row.new.coefficients (drop (n - 0) (none 12)), c.system_row.auto.coefficients, blank_long v n (case_columns v), case_columns v) in
     h
 
-pub first-unequal-requires : goal.first-unequal-requires
-first-unequal-requires g c =
+pub first_unequal-requires : goal.first_unequal-requires
+first_unequal-requires g c =
     let v = c.args.case.now in
     let n = v.states + v.inputs + v.pushes + v.states in
     let t = ready_of g c.args.controller.now v c.args.region c.args.face c.requires.states c.requires.inputs c.requires.region c.requires.face in
     let row : GivenRow v (meant g c.args.controller.now) c.args.region c.args.face _ c.system_row.result c.unwrap-right.result c.system_row.new.coefficients = record { wide = blank_long v n (case_columns v); answer = c.system_row.ensures.answer; was = c.unwrap-right.ensures; fills = c.system_row.ensures.fills } in
-    let sums = sums_front t c.args.multipliers.now c.add-up-sum.ensures.columns (drop (n - 0) (none 12)) in
+    let sums = sums_front t c.args.multipliers.now c.add_up-sum.ensures.columns (drop (n - 0) (none 12)) in
     let front = face_front t row (drop (n - 0) (none 12)) in
     record {
-      long = ap length sums ∙ sums_long t c.args.multipliers.now c.add-up-sum.ensures.columns ∙ ap (λ z. v.states + v.inputs + v.pushes + z) (sym (ap length front ∙ face_long t));
-      few = omega (arith, ap length sums, sums_long t c.args.multipliers.now c.add-up-sum.ensures.columns, case_columns v, columns_few v);
+      long = ap length sums ∙ sums_long t c.args.multipliers.now c.add_up-sum.ensures.columns ∙ ap (λ z. v.states + v.inputs + v.pushes + z) (sym (ap length front ∙ face_long t));
+      few = omega (arith, ap length sums, sums_long t c.args.multipliers.now c.add_up-sum.ensures.columns, case_columns v, columns_few v);
       scale = subst (Within multiplier_limit) (sym (to_z-of_z w64 _ c.ranges.scale)) (limited_within c.args.scale ((decides_in_limit c.args.scale).0 c.requires.scale));
       small = subst (All (Within coefficient_limit)) (sym front) (face_small t);
     }
@@ -77,10 +77,10 @@ returns-in-Some g c =
     let t = ready_of g c.args.controller.now v c.args.region c.args.face c.requires.states c.requires.inputs c.requires.region c.requires.face in
     let row : GivenRow v (meant g c.args.controller.now) c.args.region c.args.face _ c.system_row.result c.unwrap-right.result c.system_row.new.coefficients = record { wide = blank_long v n (case_columns v); answer = c.system_row.ensures.answer; was = c.unwrap-right.ensures; fills = c.system_row.ensures.fills } in
     let rest = drop (n - 0) (none 12) in
-    record { value = answer_unequal (values_of v) _ (face_of (values_of v) c.args.face) c.args.scale c.args.multipliers.now c.in-Some.column (first_is t c.args.multipliers.now c.add-up-sum.ensures.columns _ _ c.args.scale _ _ (sums_front t c.args.multipliers.now c.add-up-sum.ensures.columns rest) (face_front t row rest) (to_z-of_z w64 _ c.ranges.scale) c.in-Some.ensures.value) }
+    record { value = answer_unequal (values_of v) _ (face_of (values_of v) c.args.face) c.args.scale c.args.multipliers.now c.in-Some.column (first_is t c.args.multipliers.now c.add_up-sum.ensures.columns _ _ c.args.scale _ _ (sums_front t c.args.multipliers.now c.add_up-sum.ensures.columns rest) (face_front t row rest) (to_z-of_z w64 _ c.ranges.scale) c.in-Some.ensures.value) }
 
-pub is-excess-requires : goal.is-excess-requires
-is-excess-requires g c =
+pub is_excess-requires : goal.is_excess-requires
+is_excess-requires g c =
     let v = c.args.case.now in
     let n = v.states + v.inputs + v.pushes + v.states in
     let t = ready_of g c.args.controller.now v c.args.region c.args.face c.requires.states c.requires.inputs c.requires.region c.requires.face in
@@ -91,21 +91,21 @@ is-excess-requires g c =
       right = subst (Within right_limit) (sym (to_z-of_z w64 _ fr)) (right_small t row);
     }
 
-pub returns-then-is-excess : goal.returns-then-is-excess
-returns-then-is-excess g c =
+pub returns-then-is_excess : goal.returns-then-is_excess
+returns-then-is_excess g c =
     let v = c.args.case.now in
     let n = v.states + v.inputs + v.pushes + v.states in
     let t = ready_of g c.args.controller.now v c.args.region c.args.face c.requires.states c.requires.inputs c.requires.region c.requires.face in
     let row : GivenRow v (meant g c.args.controller.now) c.args.region c.args.face _ c.system_row.result c.unwrap-right.result c.system_row.new.coefficients = record { wide = blank_long v n (case_columns v); answer = c.system_row.ensures.answer; was = c.unwrap-right.ensures; fills = c.system_row.ensures.fills } in
     let rest = drop (n - 0) (none 12) in
     let scale = to_z-of_z w64 _ c.ranges.scale in
-    let equal = first_is t c.args.multipliers.now c.add-up-sum.ensures.columns _ _ c.args.scale _ _ (sums_front t c.args.multipliers.now c.add-up-sum.ensures.columns rest) (face_front t row rest) scale c.in-default.ensures.value in
-    let fs : SFits w64 c.add-up-sum.result = search rules in
+    let equal = first_is t c.args.multipliers.now c.add_up-sum.ensures.columns _ _ c.args.scale _ _ (sums_front t c.args.multipliers.now c.add_up-sum.ensures.columns rest) (face_front t row rest) scale c.in_default.ensures.value in
+    let fs : SFits w64 c.add_up-sum.result = search rules in
     let fr : SFits w64 c.unwrap-right.result = search rules in
     record {
       value =
           answer_equal (values_of v) (system_of (values_of v) (meant g c.args.controller.now) c.args.region) (face_of (values_of v) c.args.face) c.args.scale c.args.multipliers.now _ _ _ _
-          equal (to_z-of_z w64 _ fs ∙ c.add-up-sum.ensures.right) scale (to_z-of_z w64 _ fr ∙ face_right t row) c.if-is-excess.ensures.value;
+          equal (to_z-of_z w64 _ fs ∙ c.add_up-sum.ensures.right) scale (to_z-of_z w64 _ fr ∙ face_right t row) c.if-is_excess.ensures.value;
     }
 
 pub returns : goal.returns
@@ -116,11 +116,11 @@ returns g c =
     let row : GivenRow v (meant g c.args.controller.now) c.args.region c.args.face _ c.system_row.result c.unwrap-right.result c.system_row.new.coefficients = record { wide = blank_long v n (case_columns v); answer = c.system_row.ensures.answer; was = c.unwrap-right.ensures; fills = c.system_row.ensures.fills } in
     let rest = drop (n - 0) (none 12) in
     let scale = to_z-of_z w64 _ c.ranges.scale in
-    let equal = first_is t c.args.multipliers.now c.add-up-sum.ensures.columns _ _ c.args.scale _ _ (sums_front t c.args.multipliers.now c.add-up-sum.ensures.columns rest) (face_front t row rest) scale c.in-default.ensures.value in
-    let fs : SFits w64 c.add-up-sum.result = search rules in
+    let equal = first_is t c.args.multipliers.now c.add_up-sum.ensures.columns _ _ c.args.scale _ _ (sums_front t c.args.multipliers.now c.add_up-sum.ensures.columns rest) (face_front t row rest) scale c.in_default.ensures.value in
+    let fs : SFits w64 c.add_up-sum.result = search rules in
     let fr : SFits w64 c.unwrap-right.result = search rules in
     record {
       value =
           answer_equal (values_of v) (system_of (values_of v) (meant g c.args.controller.now) c.args.region) (face_of (values_of v) c.args.face) c.args.scale c.args.multipliers.now _ _ _ _
-          equal (to_z-of_z w64 _ fs ∙ c.add-up-sum.ensures.right) scale (to_z-of_z w64 _ fr ∙ face_right t row) c.if-is-excess.ensures.value;
+          equal (to_z-of_z w64 _ fs ∙ c.add_up-sum.ensures.right) scale (to_z-of_z w64 _ fr ∙ face_right t row) c.if-is_excess.ensures.value;
     }

@@ -15,8 +15,8 @@ at_place scale face i lt limit small =
     computed 0 multiplier_limit coefficient_limit (pos 0) scale (get_or face i (pos 0)) (lit< tt) (lit< tt) (lit< tt) (omega (arith, ints), omega (arith, ints)) limit
     (All-get_or (Within coefficient_limit) face i (pos 0) lt small)
 
-pub overflow-mul-result : goal.overflow-mul-result
-overflow-mul-result c = (at_place c.args.scale c.args.face.now (c.args.j - c.args.width) (omega (arith, c.requires.place)) c.requires.scale c.requires.small).product_fits
+pub overflow_mul-result : goal.overflow_mul-result
+overflow_mul-result c = (at_place c.args.scale c.args.face.now (c.args.j - c.args.width) (omega (arith, c.requires.place)) c.requires.scale c.requires.small).product_fits
 
 pub returns-then-j-width : goal.returns-then-j-width
 returns-then-j-width c = record { value = sym (wanted_before c.args.width c.args.scale c.args.face.now c.args.j c.if-j-width.true) }

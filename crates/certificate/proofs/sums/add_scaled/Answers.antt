@@ -26,11 +26,11 @@ module _ (cs was sums : List ℤ) (i : ℕ) (m : ℤ) (same : length cs ≡ leng
       computed room multiplier_limit coefficient_limit (to_z w64 (of_z w64 (get_or sums i (pos 0)))) m (get_or cs i (pos 0)) (lit< tt) (lit< tt) (lit< tt)
       (subst (Within room) (sym at_was) (All-get_or (Within room) was i (pos 0) lt fits)) limit (All-get_or (Within coefficient_limit) cs i (pos 0) (omega arith) small)
 
-pub overflow-mul-sums : goal.overflow-mul-sums
-overflow-mul-sums c = (at_turn c.args.coefficients.now c.args.sums.now c.loop-i.sums c.loop-i.i c.args.m c.requires.same c.loop-i-test.true (c.loop-i.invariant.1 c.loop-i.i (omega arith)) c.requires.multiplier c.requires.small c.requires.room).product_fits
+pub overflow_mul-sums : goal.overflow_mul-sums
+overflow_mul-sums c = (at_turn c.args.coefficients.now c.args.sums.now c.loop-i.sums c.loop-i.i c.args.m c.requires.same c.loop-i-test.true (c.loop-i.invariant.1 c.loop-i.i (omega arith)) c.requires.multiplier c.requires.small c.requires.room).product_fits
 
-pub overflow-add-sums : goal.overflow-add-sums
-overflow-add-sums c = (at_turn c.args.coefficients.now c.args.sums.now c.loop-i.sums c.loop-i.i c.args.m c.requires.same c.loop-i-test.true (c.loop-i.invariant.1 c.loop-i.i (omega arith)) c.requires.multiplier c.requires.small c.requires.room).sum_fits
+pub overflow_add-sums : goal.overflow_add-sums
+overflow_add-sums c = (at_turn c.args.coefficients.now c.args.sums.now c.loop-i.sums c.loop-i.i c.args.m c.requires.same c.loop-i-test.true (c.loop-i.invariant.1 c.loop-i.i (omega arith)) c.requires.multiplier c.requires.small c.requires.room).sum_fits
 
 pub loop-i-preserved : goal.loop-i-preserved
 loop-i-preserved c =

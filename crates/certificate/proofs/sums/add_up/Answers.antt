@@ -20,7 +20,7 @@ use Rattle.certificate.proofs.sums.add_up.Goals.{then-multiplier-ne0, else-multi
 
 -- what the controller means, and its limits
 abbrev meant : (g : given.Over) → g.row.C.Denot → Meaning
-meant g k = meaning (g.C.Controller.states k) (g.C.Controller.inputs k) (g.C.Controller.partition k) (g.C.Controller.feedback k)
+meant g k = meaning (g.row.C.Controller.states k) (g.row.C.Controller.inputs k) (g.row.C.Controller.partition k) (g.row.C.Controller.feedback k)
 
 pub returns : goal.returns
 returns g c =
@@ -39,15 +39,15 @@ loop-i-init g c =
     summed_same N c.args.multipliers.now rows 0 (none N) c.args.sums.now (pos 0) (pos 0) c.requires.clear refl (summed_none N c.args.multipliers.now rows (system_small v m c.args.region ready (g.met.C.Controller.limits k)))
 
 -- a turn of the loop
-turn_of : (g : given.Over) (k : g.row.C.Denot) (v : Case) (region : ℕ) (ms : List ℤ) (i : ℕ) (sums : List ℤ) (sum : ℤ) → g.C.Controller.states k ≡ v.states → g.C.Controller.inputs k ≡ v.inputs → present (g.C.Controller.partition k) region ≡ true → length ms ≡ length (system_of (values_of v) (meant g k) region) → all_in_limit ms ≡ true → i < length ms → Summed (column_count (values_of v)) ms (system_of (values_of v) (meant g k) region) i sums sum → Turn v (meant g k) region ms i sums sum
+turn_of : (g : given.Over) (k : g.row.C.Denot) (v : Case) (region : ℕ) (ms : List ℤ) (i : ℕ) (sums : List ℤ) (sum : ℤ) → g.row.C.Controller.states k ≡ v.states → g.row.C.Controller.inputs k ≡ v.inputs → present (g.row.C.Controller.partition k) region ≡ true → length ms ≡ length (system_of (values_of v) (meant g k) region) → all_in_limit ms ≡ true → i < length ms → Summed (column_count (values_of v)) ms (system_of (values_of v) (meant g k) region) i sums sum → Turn v (meant g k) region ms i sums sum
 turn_of g k v region ms i sums sum es ei there long all lt before =
     record { ready = record { states = es; inputs = ei; there = there }; limits = g.met.C.Controller.limits k; long = long; all = all; lt = lt; before = before }
 
 wide_is : (v : Case) (sums : List ℤ) → sums ≡ none (column_count (values_of v)) → length sums ≡ column_count (values_of v)
 wide_is v sums e = ap length e ∙ length-replicate (column_count (values_of v)) (pos 0)
 
-pub slice-bounds-row-end : goal.slice-bounds-row-end
-slice-bounds-row-end g c =
+pub slice_bounds-row-end : goal.slice_bounds-row-end
+slice_bounds-row-end g c =
     let h : length c.args.sums.now ≤ 12 = omega (arith, wide_is c.args.case.now c.args.sums.now c.requires.clear, columns_few c.args.case.now) in
     h
 
@@ -56,16 +56,16 @@ unwrap-right-requires g c =
     let t = turn_of g c.args.controller.now c.args.case.now c.args.region c.args.multipliers.now c.loop-i.i c.loop-i.sums _ c.requires.states c.requires.inputs c.requires.region c.requires.long c.requires.limits c.loop-i-test.true c.loop-i.invariant in
     turn_ok t _ c.system_row.result (blank_long c.args.case.now (length c.args.sums.now) (wide_is c.args.case.now c.args.sums.now c.requires.clear)) c.system_row.ensures.answer
 
-pub slice-bounds-add-scaled-end : goal.slice-bounds-add-scaled-end
-slice-bounds-add-scaled-end g c =
+pub slice_bounds-add_scaled-end : goal.slice_bounds-add_scaled-end
+slice_bounds-add_scaled-end g c =
     let n = length c.args.sums.now in
     let cs = c.system_row.new.coefficients in
     let rest = drop (n - 0) (none 12) in
     let h : n ≤ length (cs ++ rest) = omega (arith, length-append cs rest, c.system_row.auto.coefficients, blank_long c.args.case.now n (wide_is c.args.case.now c.args.sums.now c.requires.clear), wide_is c.args.case.now c.args.sums.now c.requires.clear) in
     h
 
-pub add-scaled-requires : goal.add-scaled-requires
-add-scaled-requires g c =
+pub add_scaled-requires : goal.add_scaled-requires
+add_scaled-requires g c =
     let n = length c.args.sums.now in
     let t = turn_of g c.args.controller.now c.args.case.now c.args.region c.args.multipliers.now c.loop-i.i c.loop-i.sums _ c.requires.states c.requires.inputs c.requires.region c.requires.long c.requires.limits c.loop-i-test.true c.loop-i.invariant in
     let row : GivenRow c.args.case.now (meant g c.args.controller.now) c.args.region (c.loop-i.i + 1) _ c.system_row.result c.unwrap-right.result c.system_row.new.coefficients = record { wide = blank_long c.args.case.now (length c.args.sums.now) (wide_is c.args.case.now c.args.sums.now c.requires.clear); answer = c.system_row.ensures.answer; was = c.unwrap-right.ensures; fills = c.system_row.ensures.fills } in
@@ -78,14 +78,14 @@ add-scaled-requires g c =
       room = sums_within t;
     }
 
-pub overflow-mul-sum : goal.overflow-mul-sum
-overflow-mul-sum g c =
+pub overflow_mul-sum : goal.overflow_mul-sum
+overflow_mul-sum g c =
     let t = turn_of g c.args.controller.now c.args.case.now c.args.region c.args.multipliers.now c.loop-i.i c.loop-i.sums _ c.requires.states c.requires.inputs c.requires.region c.requires.long c.requires.limits c.loop-i-test.true c.loop-i.invariant in
     let row : GivenRow c.args.case.now (meant g c.args.controller.now) c.args.region (c.loop-i.i + 1) _ c.system_row.result c.unwrap-right.result c.system_row.new.coefficients = record { wide = blank_long c.args.case.now (length c.args.sums.now) (wide_is c.args.case.now c.args.sums.now c.requires.clear); answer = c.system_row.ensures.answer; was = c.unwrap-right.ensures; fills = c.system_row.ensures.fills } in
     (turn_computed t row).product_fits
 
-pub overflow-add-sum : goal.overflow-add-sum
-overflow-add-sum g c =
+pub overflow_add-sum : goal.overflow_add-sum
+overflow_add-sum g c =
     let t = turn_of g c.args.controller.now c.args.case.now c.args.region c.args.multipliers.now c.loop-i.i c.loop-i.sums _ c.requires.states c.requires.inputs c.requires.region c.requires.long c.requires.limits c.loop-i-test.true c.loop-i.invariant in
     let row : GivenRow c.args.case.now (meant g c.args.controller.now) c.args.region (c.loop-i.i + 1) _ c.system_row.result c.unwrap-right.result c.system_row.new.coefficients = record { wide = blank_long c.args.case.now (length c.args.sums.now) (wide_is c.args.case.now c.args.sums.now c.requires.clear); answer = c.system_row.ensures.answer; was = c.unwrap-right.ensures; fills = c.system_row.ensures.fills } in
     (turn_computed t row).sum_fits
@@ -99,6 +99,6 @@ loop-i-preserved g c =
           let row : GivenRow c.args.case.now (meant g c.args.controller.now) c.args.region (c.loop-i.i + 1) _ w.system_row.result w.unwrap-right.result w.system_row.new.coefficients = record { wide = blank_long c.args.case.now (length c.args.sums.now) (wide_is c.args.case.now c.args.sums.now c.requires.clear); answer = w.system_row.ensures.answer; was = w.unwrap-right.ensures; fills = w.system_row.ensures.fills } in
           let e : length w.system_row.new.coefficients ≡ n - 0 = omega (arith, (turn_row t row).wide, wide_is c.args.case.now c.args.sums.now c.requires.clear) in
           let part = take_at w.system_row.new.coefficients (drop (n - 0) (none 12)) (n - 0) e in
-          turn_added t row _ _ (w.sums-is ∙ w.add-scaled.ensures.value ∙ ap (λ l. added c.loop-i.sums (scaled (to_z w64 (of_z w64 (get_or c.args.multipliers.now c.loop-i.i (pos 0)))) l)) part) w.sum-is
+          turn_added t row _ _ (w.sums-is ∙ w.add_scaled.ensures.value ∙ ap (λ l. added c.loop-i.sums (scaled (to_z w64 (of_z w64 (get_or c.args.multipliers.now c.loop-i.i (pos 0)))) l)) part) w.sum-is
       | else-multiplier-ne0 w ↦ summed_same _ _ _ _ _ _ _ _ w.sums-is w.sum-is (turn_skipped t w.if-multiplier-ne0.false)
     ]

@@ -12,27 +12,27 @@ use Rattle.checking.proofs.lines.check_lines.Goals as goal
 pub loop-rest-init : goal.loop-rest-init
 loop-rest-init g c = (omega arith, ([], c.none-named.ensures, refl))
 
-pub returns-in-default : goal.returns-in-default
-returns-in-default g c =
+pub returns-in_default : goal.returns-in_default
+returns-in_default g c =
     let k = c.args.controller.now in
-    let m = meaning (g.C.Controller.states k) (g.C.Controller.inputs k) (g.C.Controller.partition k) (g.C.Controller.feedback k) in
+    let m = meaning (g.row.C.Controller.states k) (g.row.C.Controller.inputs k) (g.row.C.Controller.partition k) (g.row.C.Controller.feedback k) in
     let v = values_of c.args.case.now in
     let inv = c.loop-rest.invariant.1 in
-    sym (unfinished v m inv.0 c.loop-rest.line c.loop-rest.rest.now (sym c.is-empty.ensures ∙ c.loop-rest-test.true) c.in-default.ensures) ∙ inv.2
+    sym (unfinished v m inv.0 c.loop-rest.line c.loop-rest.rest.now (sym c.is_empty.ensures ∙ c.loop-rest-test.true) c.in_default.ensures) ∙ inv.2
 
-pub returns-in-err-check-line : goal.returns-in-err-check-line
-returns-in-err-check-line g c =
+pub returns-in_err-check_line : goal.returns-in_err-check_line
+returns-in_err-check_line g c =
     let k = c.args.controller.now in
-    let m = meaning (g.C.Controller.states k) (g.C.Controller.inputs k) (g.C.Controller.partition k) (g.C.Controller.feedback k) in
+    let m = meaning (g.row.C.Controller.states k) (g.row.C.Controller.inputs k) (g.row.C.Controller.partition k) (g.row.C.Controller.feedback k) in
     let v = values_of c.args.case.now in
     let inv = c.loop-rest.invariant.1 in
-    let e = c.in-err-check-line.field-0.0 in
-    err_is c.from-residual.result e c.from-residual.ensures.1
-    ∙ sym (line_stops v m inv.0 c.loop-rest.line c.loop-rest.rest.now c.in-Some.bytes.now c.in-Some.after.now e c.in-Some.ensures (c.in-err-check-line.ensures inv.0 inv.1))
+    let e = c.in_err-check_line.field-0.0 in
+    err_is c.from_residual.result e c.from_residual.ensures.1
+    ∙ sym (line_stops v m inv.0 c.loop-rest.line c.loop-rest.rest.now c.in-Some.bytes.now c.in-Some.after.now e c.in-Some.ensures (c.in_err-check_line.ensures inv.0 inv.1))
     ∙ inv.2
 
-pub overflow-add-line : goal.overflow-add-line
-overflow-add-line g c =
+pub overflow_add-line : goal.overflow_add-line
+overflow_add-line g c =
     let short = rest_shorter c.loop-rest.rest.now c.in-Some.bytes.now c.in-Some.after.now c.in-Some.ensures in
     record { fits = omega (arith, short, c.loop-rest.invariant.0, c.args.case.now.short.0, c.args.case.now.short.1) }
 
@@ -42,10 +42,10 @@ loop-rest-smaller g c = omega (arith, rest_shorter c.loop-rest.rest.now c.in-Som
 pub loop-rest-preserved : goal.loop-rest-preserved
 loop-rest-preserved g c =
     let k = c.args.controller.now in
-    let m = meaning (g.C.Controller.states k) (g.C.Controller.inputs k) (g.C.Controller.partition k) (g.C.Controller.feedback k) in
+    let m = meaning (g.row.C.Controller.states k) (g.row.C.Controller.inputs k) (g.row.C.Controller.partition k) (g.row.C.Controller.feedback k) in
     let v = values_of c.args.case.now in
     let inv = c.loop-rest.invariant.1 in
-    let told = c.in-ok-check-line.ensures inv.0 inv.1 in
+    let told = c.in_ok-check_line.ensures inv.0 inv.1 in
     let short = rest_shorter c.loop-rest.rest.now c.in-Some.bytes.now c.in-Some.after.now c.in-Some.ensures in (
       omega (arith, short, c.loop-rest.invariant.0),
       (
@@ -58,10 +58,10 @@ loop-rest-preserved g c =
 pub returns : goal.returns
 returns g c =
     let k = c.args.controller.now in
-    let m = meaning (g.C.Controller.states k) (g.C.Controller.inputs k) (g.C.Controller.partition k) (g.C.Controller.feedback k) in
+    let m = meaning (g.row.C.Controller.states k) (g.row.C.Controller.inputs k) (g.row.C.Controller.partition k) (g.row.C.Controller.feedback k) in
     let v = values_of c.args.case.now in
     let inv = c.loop-rest.invariant.1 in
-    let ended = nothing_left c.loop-rest.rest.now (sym c.is-empty.ensures ∙ c.loop-rest-test.false) in
+    let ended = nothing_left c.loop-rest.rest.now (sym c.is_empty.ensures ∙ c.loop-rest-test.false) in
     c.all.ensures inv.0 inv.1
     ∙ ap (λ n. all_named inv.0 (range_with_len 1 n) (range_with_len 1 (2 * c.args.case.now.states + c.args.case.now.extras))) c.regions.ensures
     ∙ ap (λ n. all_named inv.0 (range_with_len 1 (length m.regions)) (range_with_len 1 n)) (case_faces c.args.case.now)

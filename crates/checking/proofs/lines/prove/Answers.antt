@@ -8,20 +8,20 @@ use Rattle.checking.proofs.Indices.{present_from, case_faces}
 use Rattle.checking.proofs.Proving.{equations_answered}
 use Rattle.checking.proofs.lines.prove.Goals as goal
 
-pub overflow-cast-pair : goal.overflow-cast-pair
-overflow-cast-pair g c =
+pub overflow_cast-pair : goal.overflow_cast-pair
+overflow_cast-pair g c =
     let few = (g.met.C.Controller.limits c.args.controller.now).regions_high in
     record { fits = omega (arith, few, c.requires.region.1) }
 
-pub overflow-cast-pair-in-Err : goal.overflow-cast-pair-in-Err
-overflow-cast-pair-in-Err g c =
+pub overflow_cast-pair-in-Err : goal.overflow_cast-pair-in-Err
+overflow_cast-pair-in-Err g c =
     let v = c.args.case.now in
     record { fits = omega (arith, c.requires.face.1, case_faces v, v.sizes.1, v.counts.1) }
 
 pub returns-in-Ok : goal.returns-in-Ok
 returns-in-Ok g c =
     let k = c.args.controller.now in
-    let m = meaning (g.C.Controller.states k) (g.C.Controller.inputs k) (g.C.Controller.partition k) (g.C.Controller.feedback k) in
+    let m = meaning (g.row.C.Controller.states k) (g.row.C.Controller.inputs k) (g.row.C.Controller.partition k) (g.row.C.Controller.feedback k) in
     let v = values_of c.args.case.now in
     let f : SFits w64 (get_or c.args.numbers.now 0 (pos 0)) = search rules in
     equations_answered v m c.args.region c.args.face c.args.line c.args.numbers.now _ _ (to_z-of_z w64 (get_or c.args.numbers.now 0 (pos 0)) f)
@@ -31,7 +31,7 @@ returns-in-Ok g c =
 pub returns-in-Err : goal.returns-in-Err
 returns-in-Err g c =
     let k = c.args.controller.now in
-    let m = meaning (g.C.Controller.states k) (g.C.Controller.inputs k) (g.C.Controller.partition k) (g.C.Controller.feedback k) in
+    let m = meaning (g.row.C.Controller.states k) (g.row.C.Controller.inputs k) (g.row.C.Controller.partition k) (g.row.C.Controller.feedback k) in
     let v = values_of c.args.case.now in
     let f : SFits w64 (get_or c.args.numbers.now 0 (pos 0)) = search rules in
     equations_answered v m c.args.region c.args.face c.args.line c.args.numbers.now _ _ (to_z-of_z w64 (get_or c.args.numbers.now 0 (pos 0)) f)

@@ -17,7 +17,7 @@ use Rattle.checking.proofs.trusted.check.Goals.{then-states-case-via-then-states
 pub returns-then-states-case : goal.returns-then-states-case
 returns-then-states-case g c =
     let k = c.args.controller.now in
-    let m = meaning (g.C.Controller.states k) (g.C.Controller.inputs k) (g.C.Controller.partition k) (g.C.Controller.feedback k) in
+    let m = meaning (g.row.C.Controller.states k) (g.row.C.Controller.inputs k) (g.row.C.Controller.partition k) (g.row.C.Controller.feedback k) in
     let v = c.args.case.now in
     record {
       value = sym (cond-false (fits (values_of v) m) (text_check (values_of v) m _ v.line v.proofs.now) (Err Sizes)
@@ -31,16 +31,16 @@ returns-then-states-case g c =
       sound = tt;
     }
 
-pub returns-in-err-check-lines : goal.returns-in-err-check-lines
-returns-in-err-check-lines g c =
+pub returns-in_err-check_lines : goal.returns-in_err-check_lines
+returns-in_err-check_lines g c =
     let k = c.args.controller.now in
-    let m = meaning (g.C.Controller.states k) (g.C.Controller.inputs k) (g.C.Controller.partition k) (g.C.Controller.feedback k) in
+    let m = meaning (g.row.C.Controller.states k) (g.row.C.Controller.inputs k) (g.row.C.Controller.partition k) (g.row.C.Controller.feedback k) in
     let v = c.args.case.now in
     let e = sym c.sizes-states.ensures.0 ∙ c.if-states-case.false in
     let f = sym c.sizes-states.ensures.1 ∙ c.if-inputs-case.false in
-    let is = err_is c.from-residual.result c.in-err-check-lines.field-0.0 c.from-residual.ensures.1 in
+    let is = err_is c.from_residual.result c.in_err-check_lines.field-0.0 c.from_residual.ensures.1 in
     record {
-      value = ap trusted_answer is ∙ c.in-err-check-lines.ensures ∙ sym (cond-true (fits (values_of v) m) _ _ (sizes_agree v m e f));
+      value = ap trusted_answer is ∙ c.in_err-check_lines.ensures ∙ sym (cond-true (fits (values_of v) m) _ _ (sizes_agree v m e f));
       kept = subst (λ r. IfOk r (λ t. t.case.now ≡ v)) (sym is) tt;
       form = check_form (values_of v) m v.line v.proofs.now;
       sound = subst (λ r. IfOk r (λ _. Invariant (values_of v) m)) (sym is) tt;
@@ -49,11 +49,11 @@ returns-in-err-check-lines g c =
 pub returns : goal.returns
 returns g c =
     let k = c.args.controller.now in
-    let m = meaning (g.C.Controller.states k) (g.C.Controller.inputs k) (g.C.Controller.partition k) (g.C.Controller.feedback k) in
+    let m = meaning (g.row.C.Controller.states k) (g.row.C.Controller.inputs k) (g.row.C.Controller.partition k) (g.row.C.Controller.feedback k) in
     let v = c.args.case.now in
     let e = sym c.sizes-states.ensures.0 ∙ c.if-states-case.false in
     let f = sym c.sizes-states.ensures.1 ∙ c.if-inputs-case.false in
-    let value = c.in-ok-check-lines.ensures ∙ sym (cond-true (fits (values_of v) m) _ _ (sizes_agree v m e f)) in
+    let value = c.in_ok-check_lines.ensures ∙ sym (cond-true (fits (values_of v) m) _ _ (sizes_agree v m e f)) in
     record {
       value = value;
       kept = refl;

@@ -19,8 +19,8 @@ product_is c =
     let h : SFits w64 (get_or c.args.gains.now c.loop-i.i (pos 0)) = search rules in
     product_read _ _ f h
 
-pub overflow-mul-coefficients : goal.overflow-mul-coefficients
-overflow-mul-coefficients c = rw (product_is c) (product_small c)
+pub overflow_mul-coefficients : goal.overflow_mul-coefficients
+overflow_mul-coefficients c = rw (product_is c) (product_small c)
 
 pub loop-i-preserved : goal.loop-i-preserved
 loop-i-preserved c =

@@ -8,26 +8,26 @@ use Rattle.elimination.proofs.Columns.{eliminated_filled, eliminated_proper, eli
 use Rattle.elimination.proofs.Counts.{kept_few}
 use Rattle.elimination.proofs.column.eliminate.Goals as goal
 
-pub overflow-mul-signs : goal.overflow-mul-signs
-overflow-mul-signs c =
+pub overflow_mul-signs : goal.overflow_mul-signs
+overflow_mul-signs c =
     let p = kept_few (λ r. is_positive (coefficient r c.args.column)) c.args.rows.now in
     let q = kept_few (λ r. is_negative (coefficient r c.args.column)) c.args.rows.now in
-    let m = mul-le c.count-signs-signs.result.positive c.count-signs-signs.result.negative 256 256 (omega (arith, c.count-signs-signs.ensures.positive, c.requires.few)) (omega (arith, c.count-signs-signs.ensures.negative, c.requires.few)) in
+    let m = mul-le c.count_signs-signs.result.positive c.count_signs-signs.result.negative 256 256 (omega (arith, c.count_signs-signs.ensures.positive, c.requires.few)) (omega (arith, c.count_signs-signs.ensures.negative, c.requires.few)) in
     omega arith
 
-pub overflow-add-signs : goal.overflow-add-signs
-overflow-add-signs c =
+pub overflow_add-signs : goal.overflow_add-signs
+overflow_add-signs c =
     let z = kept_few (λ r. is_zero (coefficient r c.args.column)) c.args.rows.now in
     let p = kept_few (λ r. is_positive (coefficient r c.args.column)) c.args.rows.now in
     let q = kept_few (λ r. is_negative (coefficient r c.args.column)) c.args.rows.now in
-    let m = mul-le c.count-signs-signs.result.positive c.count-signs-signs.result.negative 256 256 (omega (arith, c.count-signs-signs.ensures.positive, c.requires.few)) (omega (arith, c.count-signs-signs.ensures.negative, c.requires.few)) in
-    omega (arith, c.count-signs-signs.ensures.zero, c.requires.few)
+    let m = mul-le c.count_signs-signs.result.positive c.count_signs-signs.result.negative 256 256 (omega (arith, c.count_signs-signs.ensures.positive, c.requires.few)) (omega (arith, c.count_signs-signs.ensures.negative, c.requires.few)) in
+    omega (arith, c.count_signs-signs.ensures.zero, c.requires.few)
 
 pub returns : goal.returns
 returns c =
     let few : length (zeros c.args.column c.args.rows.now) + length (positives c.args.column c.args.rows.now) * length (negatives c.args.column c.args.rows.now) ≤ most_rows =
-    rw (← c.count-signs-signs.ensures.zero, ← c.count-signs-signs.ensures.positive, ← c.count-signs-signs.ensures.negative) (omega (arith, c.if-signs-gt-MOST-ROWS.false)) in
-    let e = eliminated_filled c.args.column c.args.rows.now c.copy-zeros-n.new.out c.join-all.new.out c.copy-zeros-n.result c.join-all.result few c.copy-zeros-n.ensures.rows c.join-all.ensures.value c.join-all.ensures.rows in
+    rw (← c.count_signs-signs.ensures.zero, ← c.count_signs-signs.ensures.positive, ← c.count_signs-signs.ensures.negative) (omega (arith, c.if-signs-gt-MOST_ROWS.false)) in
+    let e = eliminated_filled c.args.column c.args.rows.now c.copy_zeros-n.new.out c.join_all.new.out c.copy_zeros-n.result c.join_all.result few c.copy_zeros-n.ensures.rows c.join_all.ensures.value c.join_all.ensures.rows in
     record {
       value = e.value;
       rows = e.rows;

@@ -8,8 +8,8 @@ use Rattle.elimination.proofs.Turns.{no_row, positive_yes, positive_no, filled_s
 use Rattle.elimination.proofs.column.join_all.Goals as goal
 use Rattle.elimination.proofs.column.join_all.Goals.{then-p-column-gt0+in-ok-m, else-p-column-gt0}
 
-pub join-with-requires : goal.join-with-requires
-join-with-requires c =
+pub join_with-requires : goal.join_with-requires
+join_with-requires c =
     let f : SFits w64 (coefficient (get_or c.args.rows.now c.loop-p.p-index no_row) c.args.column) = search rules in
     let e = positive_yes (coefficient (get_or c.args.rows.now c.loop-p.p-index no_row) c.args.column) f c.if-p-column-gt0.true in
     let r = pairing_room c.args.column c.args.rows.now c.args.out.now c.loop-p.out c.args.n c.loop-p.p-index c.loop-p.m (omega arith) e c.loop-p.invariant in
@@ -21,13 +21,13 @@ join-with-requires c =
       room = omega (arith, r);
     }
 
-pub returns-in-err-m : goal.returns-in-err-m
-returns-in-err-m c =
+pub returns-in_err-m : goal.returns-in_err-m
+returns-in_err-m c =
     let f : SFits w64 (coefficient (get_or c.args.rows.now c.loop-p.p-index no_row) c.args.column) = search rules in
     let n = positive_yes (coefficient (get_or c.args.rows.now c.loop-p.p-index no_row) c.args.column) f c.if-p-column-gt0.true in
-    let k = err_from_is_err_and c.from-residual.result c.from-residual.ensures.1 in
-    let e = pairing_stop c.args.column c.args.rows.now c.args.out.now c.loop-p.out c.args.n c.loop-p.p-index c.loop-p.m c.join-with.result c.in-err-m.field-0.0 c.loop-p-test.true n c.join-with.ensures.value c.in-err-m.was c.loop-p.invariant in
-    let r = filled_stop _ c.join-with.new.out c.in-err-m.field-0.0 e in
+    let k = err_from_is_err_and c.from_residual.result c.from_residual.ensures.1 in
+    let e = pairing_stop c.args.column c.args.rows.now c.args.out.now c.loop-p.out c.args.n c.loop-p.p-index c.loop-p.m c.join_with.result c.in_err-m.field-0.0 c.loop-p-test.true n c.join_with.ensures.value c.in_err-m.was c.loop-p.invariant in
+    let r = filled_stop _ c.join_with.new.out c.in_err-m.field-0.0 e in
     record { value = k.1 ∙ ap Err k.2 ∙ r.value; rows = r.rows }
 
 pub loop-p-preserved : goal.loop-p-preserved
@@ -35,9 +35,9 @@ loop-p-preserved c =
     let f : SFits w64 (coefficient (get_or c.args.rows.now c.loop-p.p-index no_row) c.args.column) = search rules in
     elim c.if-p-column-gt0.branch [
       | then-p-column-gt0+in-ok-m w ↦ rw (w.out-is, w.m_is)
-          (pairing_yes c.args.column c.args.rows.now c.args.out.now c.loop-p.out w.join-with.new.out c.args.n c.loop-p.p-index c.loop-p.m w.in-ok-m.m c.loop-p-test.true c.loop-p.auto.out
+          (pairing_yes c.args.column c.args.rows.now c.args.out.now c.loop-p.out w.join_with.new.out c.args.n c.loop-p.p-index c.loop-p.m w.in_ok-m.m c.loop-p-test.true c.loop-p.auto.out
           (positive_yes (coefficient (get_or c.args.rows.now c.loop-p.p-index no_row) c.args.column) f w.if-p-column-gt0.true)
-          (grown _ _ w.join-with.new.out w.join-with.result w.in-ok-m.m w.join-with.ensures.value w.join-with.ensures.rows w.in-ok-m.was) c.loop-p.invariant)
+          (grown _ _ w.join_with.new.out w.join_with.result w.in_ok-m.m w.join_with.ensures.value w.join_with.ensures.rows w.in_ok-m.was) c.loop-p.invariant)
       | else-p-column-gt0 w ↦ rw (w.out-is, w.m_is)
           (pairing_no c.args.column c.args.rows.now c.args.out.now c.loop-p.out c.args.n c.loop-p.p-index c.loop-p.m c.loop-p-test.true
           (positive_no (coefficient (get_or c.args.rows.now c.loop-p.p-index no_row) c.args.column) f w.if-p-column-gt0.false) c.loop-p.invariant)

@@ -19,13 +19,13 @@ combine-requires c =
       negative = negative_yes (coefficient (get_or c.args.rows.now c.loop-q.q-index no_row) c.args.column) f c.if-q-column-lt0.true;
     }
 
-pub returns-in-err-out : goal.returns-in-err-out
-returns-in-err-out c =
+pub returns-in_err-out : goal.returns-in_err-out
+returns-in_err-out c =
     let f : SFits w64 (coefficient (get_or c.args.rows.now c.loop-q.q-index no_row) c.args.column) = search rules in
     let n = negative_yes (coefficient (get_or c.args.rows.now c.loop-q.q-index no_row) c.args.column) f c.if-q-column-lt0.true in
-    let k = err_from_is_err_and c.from-residual.result c.from-residual.ensures.1 in
-    let e = joining_stop c.args.column c.args.p.now c.args.rows.now c.args.out.now c.loop-q.out c.args.n c.loop-q.q-index c.loop-q.m c.in-err-out.field-0.0 c.loop-q-test.true n (sym c.combine.ensures.value ∙ c.in-err-out.was) c.loop-q.invariant in
-    let r = filled_stop _ c.loop-q.out c.in-err-out.field-0.0 e in
+    let k = err_from_is_err_and c.from_residual.result c.from_residual.ensures.1 in
+    let e = joining_stop c.args.column c.args.p.now c.args.rows.now c.args.out.now c.loop-q.out c.args.n c.loop-q.q-index c.loop-q.m c.in_err-out.field-0.0 c.loop-q-test.true n (sym c.combine.ensures.value ∙ c.in_err-out.was) c.loop-q.invariant in
+    let r = filled_stop _ c.loop-q.out c.in_err-out.field-0.0 e in
     record { value = k.1 ∙ ap Err k.2 ∙ r.value; rows = r.rows }
 
 pub bounds-out-m : goal.bounds-out-m
@@ -39,8 +39,8 @@ loop-q-preserved c =
     let f : SFits w64 (coefficient (get_or c.args.rows.now c.loop-q.q-index no_row) c.args.column) = search rules in
     elim c.if-q-column-lt0.branch [
       | then-q-column-lt0+in-ok-out w ↦ rw (w.out-is, w.m_is)
-          (joining_yes c.args.column c.args.p.now c.args.rows.now c.args.out.now c.loop-q.out c.args.n c.loop-q.q-index c.loop-q.m w.in-ok-out.field-0 c.loop-q-test.true c.loop-q.auto.out
-          (negative_yes (coefficient (get_or c.args.rows.now c.loop-q.q-index no_row) c.args.column) f w.if-q-column-lt0.true) (sym w.combine.ensures.value ∙ w.in-ok-out.was) c.loop-q.invariant)
+          (joining_yes c.args.column c.args.p.now c.args.rows.now c.args.out.now c.loop-q.out c.args.n c.loop-q.q-index c.loop-q.m w.in_ok-out.field-0 c.loop-q-test.true c.loop-q.auto.out
+          (negative_yes (coefficient (get_or c.args.rows.now c.loop-q.q-index no_row) c.args.column) f w.if-q-column-lt0.true) (sym w.combine.ensures.value ∙ w.in_ok-out.was) c.loop-q.invariant)
       | else-q-column-lt0 w ↦ rw (w.out-is, w.m_is)
           (joining_no c.args.column c.args.p.now c.args.rows.now c.args.out.now c.loop-q.out c.args.n c.loop-q.q-index c.loop-q.m c.loop-q-test.true
           (negative_no (coefficient (get_or c.args.rows.now c.loop-q.q-index no_row) c.args.column) f w.if-q-column-lt0.false) c.loop-q.invariant)

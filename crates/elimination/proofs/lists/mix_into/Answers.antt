@@ -9,18 +9,18 @@ use Rattle.elimination.proofs.lists.mix_into.Goals as goal
 at_place : (x y : ℤ) (p q : List ℤ) (k : ℕ) → Within number_limit x × Within number_limit y → All (Within number_limit) p × All (Within number_limit) q → SumFits x (get_or p k (pos 0)) y (get_or q k (pos 0))
 at_place x y p q k f v = sum_of x (get_or p k (pos 0)) y (get_or q k (pos 0)) f.0 (within_get_or number_limit p k v.0) f.1 (within_get_or number_limit q k v.1)
 
-pub overflow-mul-out : goal.overflow-mul-out
-overflow-mul-out c =
+pub overflow_mul-out : goal.overflow_mul-out
+overflow_mul-out c =
     let f = at_place c.args.x c.args.y c.args.p.now c.args.q.now c.loop-k.k c.requires.factors c.requires.values in
     code_product_fits c.args.x (get_or c.args.p.now c.loop-k.k (pos 0)) f.x_fits f.a_fits f.first_fits
 
-pub overflow-mul-out-in-loop-k : goal.overflow-mul-out-in-loop-k
-overflow-mul-out-in-loop-k c =
+pub overflow_mul-out-in-loop-k : goal.overflow_mul-out-in-loop-k
+overflow_mul-out-in-loop-k c =
     let f = at_place c.args.x c.args.y c.args.p.now c.args.q.now c.loop-k.k c.requires.factors c.requires.values in
     code_product_fits c.args.y (get_or c.args.q.now c.loop-k.k (pos 0)) f.y_fits f.b_fits f.second_fits
 
-pub overflow-add-out : goal.overflow-add-out
-overflow-add-out c =
+pub overflow_add-out : goal.overflow_add-out
+overflow_add-out c =
     let f = at_place c.args.x c.args.y c.args.p.now c.args.q.now c.loop-k.k c.requires.factors c.requires.values in
     code_sum_fits c.args.x (get_or c.args.p.now c.loop-k.k (pos 0)) c.args.y (get_or c.args.q.now c.loop-k.k (pos 0)) f
 

@@ -6,8 +6,8 @@ use Rattle.arith.proofs.Bounds.{all_wider}
 use Rattle.elimination.specs.Rows.{multiplier_limit, number_limit}
 use Rattle.elimination.proofs.pair.weighted_sum.Goals as goal
 
-pub mix-into-requires : goal.mix-into-requires
-mix-into-requires c = record {
+pub mix_into-requires : goal.mix_into-requires
+mix_into-requires c = record {
   long-p = c.requires.rows.0.long;
   long-q = c.requires.rows.1.long;
   factors = (subst (Within number_limit) (sym (to_z-of_z w64 c.args.x c.ranges.x)) c.requires.factors.0, subst (Within number_limit) (sym (to_z-of_z w64 c.args.y c.ranges.y)) c.requires.factors.1);

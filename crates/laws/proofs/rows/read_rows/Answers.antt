@@ -10,18 +10,18 @@ use Rattle.laws.proofs.rows.read_rows.Goals as goal
 pub loop-i-init : goal.loop-i-init
 loop-i-init c = (refl, refl, rw sub-zero (behind_none _))
 
-pub returns-in-err-row : goal.returns-in-err-row
-returns-in-err-row c =
-    ap with_rest (err_is c.from-residual.result _ c.from-residual.ensures.1)
+pub returns-in_err-row : goal.returns-in_err-row
+returns-in_err-row c =
+    ap with_rest (err_is c.from_residual.result _ c.from_residual.ensures.1)
     ∙ stops c.args.head.kind c.args.head.states c.args.head.inputs c.loop-i.i c.loop-i.rest.now (take c.loop-i.i c.loop-i.rows) _ _ c.loop-i-test.true
-    c.in-err-row.ensures c.loop-i.invariant.2
+    c.in_err-row.ensures c.loop-i.invariant.2
 
 pub loop-i-preserved : goal.loop-i-preserved
 loop-i-preserved c = (
-  length-set c.loop-i.rows c.loop-i.i c.in-ok-row.row ∙ c.loop-i.invariant.0,
-  rest_more 2 c.loop-i.i c.loop-i.rows c.in-ok-row.row zero_row c.loop-i.invariant.1,
+  length-set c.loop-i.rows c.loop-i.i c.in_ok-row.row ∙ c.loop-i.invariant.0,
+  rest_more 2 c.loop-i.i c.loop-i.rows c.in_ok-row.row zero_row c.loop-i.invariant.1,
   more c.args.head.kind c.args.head.states c.args.head.inputs c.loop-i.i c.loop-i.rest.now _ _ c.loop-i.rows _ c.loop-i-test.true (omega arith)
-      c.in-ok-row.ensures c.loop-i.invariant.2,
+      c.in_ok-row.ensures c.loop-i.invariant.2,
 )
 
 pub returns : goal.returns

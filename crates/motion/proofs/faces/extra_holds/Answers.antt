@@ -9,14 +9,14 @@ use Rattle.motion.proofs.Stored.{sliced, extra_row}
 use Rattle.motion.proofs.Widths.{widened, same_order}
 use Rattle.motion.proofs.faces.extra_holds.Goals as goal
 
-pub row-product-requires : goal.row-product-requires
-row-product-requires c =
+pub row_product-requires : goal.row_product-requires
+row_product-requires c =
     let s = sliced (length c.args.x.now) most_states c.args.face.coefficients c.requires.few (omega arith) (extra_row c.args.face c.requires.limits) in
     record { same = s.same; few = s.few; small = s.small }
 
 pub returns : goal.returns
 returns c =
-    let f : SFits w128 c.row-product.result = search rules in
+    let f : SFits w128 c.row_product.result = search rules in
     let g : SFits w64 c.args.face.right = search rules in
-    let e = to_z-of_z w128 _ f ∙ c.row-product.ensures ∙ ap (λ a. dot a c.args.x.now) (front_slice (length c.args.x.now) c.args.face.coefficients) in
+    let e = to_z-of_z w128 _ f ∙ c.row_product.ensures ∙ ap (λ a. dot a c.args.x.now) (front_slice (length c.args.x.now) c.args.face.coefficients) in
     same_order _ _ _ _ e (widened c.args.face.right g)

@@ -7,8 +7,8 @@ use Rattle.motion.proofs.Aims.{aim_held}
 use Rattle.motion.proofs.Stored.{equation_ok_at, equations_enough}
 use Rattle.motion.proofs.next.aimed.Goals as goal
 
-pub aim-of-requires : goal.aim-of-requires
-aim-of-requires c =
+pub aim_of-requires : goal.aim_of-requires
+aim_of-requires c =
     let k = c.args.case.now in
     let lt : c.args.state < length k.equations = omega (arith, equations_enough k, c.requires.place) in
     record {
@@ -16,17 +16,17 @@ aim-of-requires c =
       states = omega (arith, k.sizes.1, c.requires.states);
       inputs = omega (arith, k.sizes.3, c.requires.inputs);
       pushes = omega (arith, k.counts.0, c.requires.pushes);
-      small-x = c.requires.small-x;
-      small-u = c.requires.small-u;
-      small-w = c.requires.small-w;
+      small-x = c.requires.small_x;
+      small-u = c.requires.small_u;
+      small-w = c.requires.small_w;
     }
 
 pub returns : goal.returns
 returns c =
     let k = c.args.case.now in
-    let f : SFits w64 c.aim-of.result = search rules in
+    let f : SFits w64 c.aim_of.result = search rules in
     let e = to_z-of_z w64 _ f in
     record {
-      value = e ∙ aim_held k c.args.state c.args.x.now c.args.u.now c.args.w.now _ c.requires.place c.requires.states c.requires.inputs c.requires.pushes c.aim-of.ensures.value;
-      bound = subst (Within aim_limit) (sym e) c.aim-of.ensures.bound;
+      value = e ∙ aim_held k c.args.state c.args.x.now c.args.u.now c.args.w.now _ c.requires.place c.requires.states c.requires.inputs c.requires.pushes c.aim_of.ensures.value;
+      bound = subst (Within aim_limit) (sym e) c.aim_of.ensures.bound;
     }

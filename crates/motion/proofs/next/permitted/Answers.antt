@@ -12,12 +12,12 @@ returns c =
     let r = c.args.leeway in
     let v = c.args.v in
     let one : pos 1 ≤ℤ D = omega (arith, ints) in
-    let f : SFits w128 c.lowest-value.result = search rules in
-    let g : SFits w128 c.highest-value.result = search rules in
-    let l : to_z w128 (of_z w128 c.lowest-value.result) ≡ lowest D r v =
-    to_z-of_z w128 _ f ∙ c.lowest-value.ensures ∙ numbers_read lowest D r v c.ranges.divisor c.ranges.leeway c.ranges.v in
-    let u : to_z w128 (of_z w128 c.highest-value.result) ≡ highest D r v =
-    to_z-of_z w128 _ g ∙ c.highest-value.ensures ∙ numbers_read highest D r v c.ranges.divisor c.ranges.leeway c.ranges.v in
+    let f : SFits w128 c.lowest_value.result = search rules in
+    let g : SFits w128 c.highest_value.result = search rules in
+    let l : to_z w128 (of_z w128 c.lowest_value.result) ≡ lowest D r v =
+    to_z-of_z w128 _ f ∙ c.lowest_value.ensures ∙ numbers_read lowest D r v c.ranges.divisor c.ranges.leeway c.ranges.v in
+    let u : to_z w128 (of_z w128 c.highest_value.result) ≡ highest D r v =
+    to_z-of_z w128 _ g ∙ c.highest_value.ensures ∙ numbers_read highest D r v c.ranges.divisor c.ranges.leeway c.ranges.v in
     record {
       value = permitted_is D r v _ _ one l u;
       exactly = exactly D r v _ _ one l u;

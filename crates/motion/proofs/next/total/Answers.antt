@@ -14,11 +14,11 @@ narrow c = sfits_within aim_limit _ (lit< tt) c.requires.sum
 wide : (c : goal.Start) → SFits w128 (c.args.ax +ℤ c.args.bu +ℤ c.args.ew +ℤ c.args.constant)
 wide c = wide_within aim_limit _ (lit< tt) c.requires.sum
 
-pub overflow-add-result-3 : goal.overflow-add-result-3
-overflow-add-result-3 c = subst (SFits w128) (sym (total_read _ _ _ _ c.ranges.constant c.requires.states c.requires.inputs c.requires.pushes)) (wide c)
+pub overflow_add-result-3 : goal.overflow_add-result-3
+overflow_add-result-3 c = subst (SFits w128) (sym (total_read _ _ _ _ c.ranges.constant c.requires.states c.requires.inputs c.requires.pushes)) (wide c)
 
-pub overflow-cast-result-2 : goal.overflow-cast-result-2
-overflow-cast-result-2 c =
+pub overflow_cast-result-2 : goal.overflow_cast-result-2
+overflow_cast-result-2 c =
     let e = ap (λ z. to_z w128 (of_z w128 z)) (total_read _ _ _ _ c.ranges.constant c.requires.states c.requires.inputs c.requires.pushes) ∙ to_z-of_z w128 _ (wide c) in
     subst (SFits w64) (sym e) (narrow c)
 

@@ -12,8 +12,8 @@ at_turn c s sum =
     let g : SFits w64 (get_or c.args.values.now c.loop-i.i (pos 0)) = search rules in
     turn _ _ _ s _ c.loop-i-test.true c.requires.same c.requires.few c.requires.small g (c.product-sum.ensures ∙ product_read _ _ f g) sum
 
-pub overflow-add-sum : goal.overflow-add-sum
-overflow-add-sum c = sum_fits _ _ _ _ _ (at_turn c _ c.loop-i.invariant)
+pub overflow_add-sum : goal.overflow_add-sum
+overflow_add-sum c = sum_fits _ _ _ _ _ (at_turn c _ c.loop-i.invariant)
 
 pub loop-i-preserved : goal.loop-i-preserved
 loop-i-preserved c = turned _ _ _ _ _ (at_turn c _ c.loop-i.invariant)

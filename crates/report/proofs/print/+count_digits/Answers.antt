@@ -3,8 +3,8 @@ use Rattle.std.proofs.Common.{◌/◌, sym, arith}
 use Rattle.report.proofs.Rendering.{length_digit, length_step, length_render_le}
 use Rattle.report.proofs.print.+count_digits.Goals as goal
 
-pub overflow-add-result : goal.overflow-add-result
-overflow-add-result t c = omega (arith, length_render_le 20 (c.args.n / 10) (omega arith) (omega arith))
+pub overflow_add-result : goal.overflow_add-result
+overflow_add-result t c = omega (arith, length_render_le 20 (c.args.n / 10) (omega arith) (omega arith))
 
 pub returns-then-n-lt10 : goal.returns-then-n-lt10
 returns-then-n-lt10 t c = sym (length_digit c.args.n c.if-n-lt10.true)

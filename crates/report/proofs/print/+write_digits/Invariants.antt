@@ -1,5 +1,5 @@
 -- The recursion ends, since the number falls.
 use Rattle.report.proofs.print.+write_digits.Given as goal
 
-abbrev pub decreases-write-digits : goal.decreases-write-digits
-decreases-write-digits l = l.n
+abbrev pub decreases-write_digits : goal.decreases-write_digits
+decreases-write_digits l = l.n

@@ -19,18 +19,18 @@ returns c =
     let word : List ℕ = c.args.word.now in
     let layer : List ℕ = c.args.layer.now in
     let numbers : List ℕ = flat_map spaced c.args.numbers.now in
-    let at : ℕ = c.print-bytes-at.result in
+    let at : ℕ = c.print_bytes-at.result in
     let one = length_push word 32 in
     let two = length-append (word ++ 32 ∷ []) layer in
     let three = length-append (word ++ 32 ∷ [] ++ layer) numbers in
-    let front = ap (λ t. set t at 32) c.print-bytes-at.ensures.bytes ∙ written_push word out 32 at c.print-bytes-at.ensures.count (omega arith) in
-    let words = tail_written (word ++ 32 ∷ []) layer out _ c.print-bytes-at-2.new.out _ (at + 1) refl front (omega arith) c.print-bytes-at-2.ensures.bytes in
-    let line = tail_written (word ++ 32 ∷ [] ++ layer) numbers out _ c.print-numbers-at.new.out _ (at + 1 + c.print-bytes-at-2.result) refl words (omega arith) c.print-numbers-at.ensures.bytes in
+    let front = ap (λ t. set t at 32) c.print_bytes-at.ensures.bytes ∙ written_push word out 32 at c.print_bytes-at.ensures.count (omega arith) in
+    let words = tail_written (word ++ 32 ∷ []) layer out _ c.print_bytes-at-2.new.out _ (at + 1) refl front (omega arith) c.print_bytes-at-2.ensures.bytes in
+    let line = tail_written (word ++ 32 ∷ [] ++ layer) numbers out _ c.print_numbers-at.new.out _ (at + 1 + c.print_bytes-at-2.result) refl words (omega arith) c.print_numbers-at.ensures.bytes in
     let whole = length_line word layer c.args.numbers.now in
     record {
       count = omega arith;
       fits = omega arith;
-      bytes = ap (λ t. set t (at + 1 + c.print-bytes-at-2.result + c.print-numbers-at.result) 10) line
-          ∙ written_push (word ++ 32 ∷ [] ++ layer ++ numbers) out 10 (at + 1 + c.print-bytes-at-2.result + c.print-numbers-at.result) (omega arith) (omega arith)
+      bytes = ap (λ t. set t (at + 1 + c.print_bytes-at-2.result + c.print_numbers-at.result) 10) line
+          ∙ written_push (word ++ 32 ∷ [] ++ layer ++ numbers) out 10 (at + 1 + c.print_bytes-at-2.result + c.print_numbers-at.result) (omega arith) (omega arith)
           ∙ ap (λ t. written t out) (line_is word layer c.args.numbers.now);
     }

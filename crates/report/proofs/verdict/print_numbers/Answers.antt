@@ -15,30 +15,30 @@ number_is z n f e = omega (arith, ints)
 
 pub loop-number-preserved : goal.loop-number-preserved
 loop-number-preserved c =
-    let e = number_is _ _ (c.type-inv.numbers c.loop-number.number-index) c.from.ensures in
-    turn c.args.numbers.now c.args.out.now c.loop-number.out c.write-number.new.out c.loop-number.number-index c.loop-number.at c.in-Some.count _
+    let e = number_is _ _ (c.type_inv.numbers c.loop-number.number-index) c.from.ensures in
+    turn c.args.numbers.now c.args.out.now c.loop-number.out c.write_number.new.out c.loop-number.number-index c.loop-number.at c.in-Some.count _
     c.loop-number-test.true c.loop-number.invariant.0 c.loop-number.invariant.1 c.requires c.loop-number.auto.out e c.in-Some.ensures.count c.in-Some.ensures.bytes
 
 pub bounds-out-at : goal.bounds-out-at
 bounds-out-at c = omega (arith, room_more c.args.numbers.now c.loop-number.number-index c.loop-number-test.true)
 
-pub overflow-add-at : goal.overflow-add-at
-overflow-add-at c = omega (arith, room_more c.args.numbers.now c.loop-number.number-index c.loop-number-test.true)
+pub overflow_add-at : goal.overflow_add-at
+overflow_add-at c = omega (arith, room_more c.args.numbers.now c.loop-number.number-index c.loop-number-test.true)
 
-pub slice-bounds-write-number-count : goal.slice-bounds-write-number-count
-slice-bounds-write-number-count c =
+pub slice_bounds-write_number-count : goal.slice_bounds-write_number-count
+slice_bounds-write_number-count c =
     omega (arith, room_more c.args.numbers.now c.loop-number.number-index c.loop-number-test.true, length-set c.loop-number.out c.loop-number.at 32)
 
-pub slice-bounds-write-number-start : goal.slice-bounds-write-number-start
-slice-bounds-write-number-start c =
+pub slice_bounds-write_number-start : goal.slice_bounds-write_number-start
+slice_bounds-write_number-start c =
     omega (arith, room_more c.args.numbers.now c.loop-number.number-index c.loop-number-test.true, length-set c.loop-number.out c.loop-number.at 32)
 
-pub overflow-add-at-in-Some : goal.overflow-add-at-in-Some
-overflow-add-at-in-Some c = omega (arith, (loop-number-preserved c).0, length_front c.args.numbers.now (c.loop-number.number-index + 1))
+pub overflow_add-at-in-Some : goal.overflow_add-at-in-Some
+overflow_add-at-in-Some c = omega (arith, (loop-number-preserved c).0, length_front c.args.numbers.now (c.loop-number.number-index + 1))
 
 pub unreachable-requires : goal.unreachable-requires
 unreachable-requires c =
-    let e = number_is _ _ (c.type-inv.numbers c.loop-number.number-index) c.from.ensures in
+    let e = number_is _ _ (c.type_inv.numbers c.loop-number.number-index) c.from.ensures in
     let out = set c.loop-number.out c.loop-number.at 32 in
     omega (
       arith,

@@ -15,14 +15,14 @@ use Rattle.system.proofs.Places.{front_long, front_filled, map_one}
 use Rattle.system.proofs.Filling.{extra_at, extra_ok_at, extra_face_is, same_row}
 use Rattle.system.proofs.kinds.extra_row.Goals as goal
 
-pub slice-bounds-fill-scaled-end-2 : goal.slice-bounds-fill-scaled-end-2
-slice-bounds-fill-scaled-end-2 c =
+pub slice_bounds-fill_scaled-end-2 : goal.slice_bounds-fill_scaled-end-2
+slice_bounds-fill_scaled-end-2 c =
     let v = c.args.case.now in
     let h : v.states ≤ length c.clear.new.coefficients = omega (arith, c.requires.long, case_columns v) in
     h
 
-pub fill-scaled-requires : goal.fill-scaled-requires
-fill-scaled-requires c =
+pub fill_scaled-requires : goal.fill_scaled-requires
+fill_scaled-requires c =
     let v = c.args.case.now in
     let f = extra_at v (c.args.j - 2 * v.states) in
     let ok = extra_ok_at v (c.args.j - 2 * v.states) (omega (arith, c.requires.past, c.requires.place)) in
@@ -46,8 +46,8 @@ returns c =
     let z : n - 0 ≡ n = omega arith in
     let ok = extra_ok_at v i (omega (arith, c.requires.past, c.requires.place)) in
     same_row _ _ _ _
-    (ap (λ l. put_mid 0 (n - 0) l c.fill-scaled.new.coefficients) (c.clear.ensures ∙ ap none c.requires.long)
-    ∙ front_filled n (column_count k) r c.fill-scaled.new.coefficients wide
-    ∙ ap (λ l. l ++ none r) (c.fill-scaled.ensures ∙ map_one (take (n - 0) f.coefficients) ∙ ap (λ t. take t f.coefficients) z))
+    (ap (λ l. put_mid 0 (n - 0) l c.fill_scaled.new.coefficients) (c.clear.ensures ∙ ap none c.requires.long)
+    ∙ front_filled n (column_count k) r c.fill_scaled.new.coefficients wide
+    ∙ ap (λ l. l ++ none r) (c.fill_scaled.ensures ∙ map_one (take (n - 0) f.coefficients) ∙ ap (λ t. take t f.coefficients) z))
     (to_z-of_z w64 _ (sfits_within extra_limit _ (lit< tt) ok.right_small))
     ∙ extra_face_is v c.args.j c.requires.past c.requires.place

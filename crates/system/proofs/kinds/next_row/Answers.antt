@@ -8,8 +8,8 @@ use Rattle.case.specs.Values.{equation_of, values_of}
 use Rattle.system.proofs.Filling.{equation_at, equation_test_at, equation_ok_at, high_next_is, low_next_is, same_row, up_is, down_is, divisor_within, divisor_read}
 use Rattle.system.proofs.kinds.next_row.Goals as goal
 
-pub fill-next-requires : goal.fill-next-requires
-fill-next-requires c =
+pub fill_next-requires : goal.fill_next-requires
+fill_next-requires c =
     record {
       place = omega (arith, c.requires.place);
       limits = equation_test_at c.args.case.now (c.args.j / 2) (omega (arith, c.requires.place));
@@ -17,8 +17,8 @@ fill-next-requires c =
       long = c.requires.long;
     }
 
-pub fill-next-requires-2 : goal.fill-next-requires-2
-fill-next-requires-2 c =
+pub fill_next-requires-2 : goal.fill_next-requires-2
+fill_next-requires-2 c =
     record {
       place = omega (arith, c.requires.place);
       limits = equation_test_at c.args.case.now (c.args.j / 2) (omega (arith, c.requires.place));
@@ -26,8 +26,8 @@ fill-next-requires-2 c =
       long = c.requires.long;
     }
 
-pub overflow-add-result : goal.overflow-add-result
-overflow-add-result c = let t = up_is (equation_at c.args.case.now (c.args.j / 2)) (equation_ok_at c.args.case.now (c.args.j / 2) (omega (arith, c.requires.place))) in t.1
+pub overflow_add-result : goal.overflow_add-result
+overflow_add-result c = let t = up_is (equation_at c.args.case.now (c.args.j / 2)) (equation_ok_at c.args.case.now (c.args.j / 2) (omega (arith, c.requires.place))) in t.1
 
 pub returns-then-j-eq0 : goal.returns-then-j-eq0
 returns-then-j-eq0 c =
@@ -35,11 +35,11 @@ returns-then-j-eq0 c =
     let i = c.args.j / 2 in
     let s = equation_at v i in
     let t = up_is s (equation_ok_at v i (omega (arith, c.requires.place))) in
-    same_row _ _ _ _ (c.fill-next.ensures ∙ ap (equation_row (values_of v) i (equation_of v.states v.inputs v.pushes s) (negsuc 0)) (divisor_read v)) t.0
+    same_row _ _ _ _ (c.fill_next.ensures ∙ ap (equation_row (values_of v) i (equation_of v.states v.inputs v.pushes s) (negsuc 0)) (divisor_read v)) t.0
     ∙ high_next_is v c.args.j c.requires.place c.if-j-eq0.true
 
-pub overflow-sub-result : goal.overflow-sub-result
-overflow-sub-result c = let t = down_is (equation_at c.args.case.now (c.args.j / 2)) (equation_ok_at c.args.case.now (c.args.j / 2) (omega (arith, c.requires.place))) in t.1
+pub overflow_sub-result : goal.overflow_sub-result
+overflow_sub-result c = let t = down_is (equation_at c.args.case.now (c.args.j / 2)) (equation_ok_at c.args.case.now (c.args.j / 2) (omega (arith, c.requires.place))) in t.1
 
 pub returns : goal.returns
 returns c =
@@ -48,5 +48,5 @@ returns c =
     let s = equation_at v i in
     let t = down_is s (equation_ok_at v i (omega (arith, c.requires.place))) in
     let d = negated_read divisor_limit v.divisor (lit< tt) (divisor_within v) in
-    same_row _ _ _ _ (c.fill-next-2.ensures ∙ ap (equation_row (values_of v) i (equation_of v.states v.inputs v.pushes s) (pos 1)) d) t.0
+    same_row _ _ _ _ (c.fill_next-2.ensures ∙ ap (equation_row (values_of v) i (equation_of v.states v.inputs v.pushes s) (pos 1)) d) t.0
     ∙ low_next_is v c.args.j c.requires.place c.if-j-eq0.false

@@ -4,11 +4,11 @@ use Rattle.control.specs.Meaning.{meaning}
 use Rattle.system.proofs.Outcomes.{sized}
 use Rattle.system.proofs.row.system_row.Goals as goal
 
-pub fill-row-requires : goal.fill-row-requires
-fill-row-requires g c =
+pub fill_row-requires : goal.fill_row-requires
+fill_row-requires g c =
     let k = c.args.controller.now in
-    let m = meaning (g.C.Controller.states k) (g.C.Controller.inputs k) (g.C.Controller.partition k) (g.C.Controller.feedback k) in
-    let t = sized c.args.case.now m c.args.region c.in-ok-size.size c.in-ok-size.ensures.answer in
+    let m = meaning (g.row.C.Controller.states k) (g.row.C.Controller.inputs k) (g.row.C.Controller.partition k) (g.row.C.Controller.feedback k) in
+    let t = sized c.args.case.now m c.args.region c.in_ok-size.size c.in_ok-size.ensures.answer in
     record {
       states = t.states;
       inputs = t.inputs;

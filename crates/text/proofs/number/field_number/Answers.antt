@@ -31,5 +31,5 @@ returns c =
           ∙ inside c.args.limit.low c.args.limit.high c.in-Some.number _ f g c.in-Some.ensures (grind (arith, ints, nat_tests));
     }
 
-pub returns-in-default : goal.returns-in-default
-returns-in-default c = record { value = unread c.args.limit.low c.args.limit.high _ c.in-default.ensures; inside = tt; form = number_form c.args.field.now }
+pub returns-in_default : goal.returns-in_default
+returns-in_default c = record { value = unread c.args.limit.low c.args.limit.high _ c.in_default.ensures; inside = tt; form = number_form c.args.field.now }

@@ -5,10 +5,10 @@ use Rattle.text.specs.Numbers.{digits_after, magnitude_of, capped}
 use Rattle.text.proofs.Reading.{more_digits, finished, stopped, magnitude_plain}
 use Rattle.text.proofs.number.magnitude.Goals as goal
 
-pub returns-in-default : goal.returns-in-default
-returns-in-default c =
+pub returns-in_default : goal.returns-in_default
+returns-in_default c =
     stopped c.args.digits.now c.loop-b.b-index c.loop-b.value _ c.loop-b-test.true
-    (λ d e. c.in-default.not-Digit d (c.class-of.ensures ∙ e))
+    (λ d e. c.in_default.not-Digit d (c.class_of.ensures ∙ e))
     (c.loop-b.invariant.1 ∙ ap (option_map capped) (sym (magnitude_plain c.args.digits.now (grind arith) (λ h e. grind arith))))
 
 pub loop-b-preserved : goal.loop-b-preserved

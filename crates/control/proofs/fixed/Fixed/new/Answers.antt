@@ -5,21 +5,21 @@ use Rattle.control.specs.Limits.{setting_limit}
 use Rattle.control.proofs.FixedLaws.{one_read, two_read, fixed_passes}
 use Rattle.control.proofs.fixed.Fixed.new.Goals as goal
 
-pub invariant-of-result : goal.invariant-of-result
-invariant-of-result c =
+pub invariant_of-result : goal.invariant_of-result
+invariant_of-result c =
     let us = c.args.commands.now in
     let e : length us ≡ 1 = search rules in
     let f : SFits w64 (get_or us 0 (pos 0)) = search rules in
-    let small = ap (all_within setting_limit) (one_read us e f) ∙ sym c.if-not-all-within.ensures in
+    let small = ap (all_within setting_limit) (one_read us e f) ∙ sym c.if-not-all_within.ensures in
     ((omega arith, omega arith, omega arith, omega arith), (refl, (small, tt)))
 
-pub invariant-of-result-in-len2 : goal.invariant-of-result-in-len2
-invariant-of-result-in-len2 c =
+pub invariant_of-result-in-len2 : goal.invariant_of-result-in-len2
+invariant_of-result-in-len2 c =
     let us = c.args.commands.now in
     let e : length us ≡ 2 = search rules in
     let f : SFits w64 (get_or us 0 (pos 0)) = search rules in
     let h : SFits w64 (get_or us 1 (pos 0)) = search rules in
-    let small = ap (all_within setting_limit) (two_read us e f h) ∙ sym c.if-not-all-within.ensures in
+    let small = ap (all_within setting_limit) (two_read us e f h) ∙ sym c.if-not-all_within.ensures in
     ((omega arith, omega arith, omega arith, omega arith), (refl, (small, tt)))
 
 pub returns-in-len1 : goal.returns-in-len1
@@ -28,7 +28,7 @@ returns-in-len1 c =
     let e : length us ≡ 1 = search rules in
     let f : SFits w64 (get_or us 0 (pos 0)) = search rules in
     record {
-      made = fixed_passes c.args.states us (omega arith) (omega arith) (omega arith) (omega arith) c.if-not-all-within.ensures;
+      made = fixed_passes c.args.states us (omega arith) (omega arith) (omega arith) (omega arith) c.if-not-all_within.ensures;
       held = (refl, sym e, one_read us e f);
     }
 
@@ -39,6 +39,6 @@ returns-in-len2 c =
     let f : SFits w64 (get_or us 0 (pos 0)) = search rules in
     let h : SFits w64 (get_or us 1 (pos 0)) = search rules in
     record {
-      made = fixed_passes c.args.states us (omega arith) (omega arith) (omega arith) (omega arith) c.if-not-all-within.ensures;
+      made = fixed_passes c.args.states us (omega arith) (omega arith) (omega arith) (omega arith) c.if-not-all_within.ensures;
       held = (refl, sym e, two_read us e f h);
     }

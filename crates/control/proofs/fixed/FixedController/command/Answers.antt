@@ -10,7 +10,7 @@ pub returns : goal.returns
 returns c =
     let s = c.args.self.now in
     let m = fixed_meaning s.states s.inputs (take s.inputs s.commands) in
-    let p = command_found m c.args.x.now c.args.u.now (eq-eqb _ _ c.if-x-self.false) (eq-eqb _ _ c.if-u-self.false) (sym c.if-not-all-within.ensures) in
+    let p = command_found m c.args.x.now c.args.u.now (eq-eqb _ _ c.if-x-self.false) (eq-eqb _ _ c.if-u-self.false) (sym c.if-not-all_within.ensures) in
     let le : s.inputs ≤ length s.commands = omega arith in
     let len : length (take s.inputs s.commands) ≡ s.inputs = length-take-le _ _ le in
     let same : c.loop-i.u ≡ take s.inputs s.commands =

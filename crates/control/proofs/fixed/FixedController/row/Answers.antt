@@ -34,8 +34,8 @@ returns-then-coefficients-self c =
     (ne_eqb _ _ c.if-coefficients-self.true) in
     record { answer = p.0; fills = p.1 }
 
-pub fixed-line-line-requires : goal.fixed-line-line-requires
-fixed-line-line-requires c =
+pub fixed_line-line-requires : goal.fixed_line-line-requires
+fixed_line-line-requires c =
     let s = c.args.self.now in
     let lt : (c.args.row - 1) / 2 < length s.commands = omega arith in
     let f : SFits w64 (get_or s.commands ((c.args.row - 1) / 2) (pos 0)) = search rules in
@@ -44,13 +44,13 @@ fixed-line-line-requires c =
       place = omega arith;
     }
 
-pub fill-row-requires : goal.fill-row-requires
-fill-row-requires c =
+pub fill_row-requires : goal.fill_row-requires
+fill_row-requires c =
     let s = c.args.self.now in
     let z = zeros_front s.states s.sizes.1 in
     let lt : (c.args.row - 1) / 2 < s.inputs = omega arith in
     let f : SFits w64 (get_or s.commands ((c.args.row - 1) / 2) (pos 0)) = search rules in
-    let sg = ap (λ t. t.sign) (code_line s.inputs s.commands (c.args.row - 1) _ lt f c.fixed-line-line.ensures) ∙ line_sign (take s.inputs s.commands) (c.args.row - 1) in
+    let sg = ap (λ t. t.sign) (code_line s.inputs s.commands (c.args.row - 1) _ lt f c.fixed_line-line.ensures) ∙ line_sign (take s.inputs s.commands) (c.args.row - 1) in
     record {
       room = omega (arith, ap length z, length-replicate s.states (pos 0));
       small = subst (All (Within coefficient_limit)) (sym z) (zeros_within coefficient_limit s.states);
@@ -61,10 +61,10 @@ pub returns : goal.returns
 returns c =
     let s = c.args.self.now in
     let us = take s.inputs s.commands in
-    let h : SFits w64 c.fixed-line-line.result.right = search rules in
+    let h : SFits w64 c.fixed_line-line.result.right = search rules in
     let lt : (c.args.row - 1) / 2 < s.inputs = omega arith in
     let f : SFits w64 (get_or s.commands ((c.args.row - 1) / 2) (pos 0)) = search rules in
-    let l = code_line s.inputs s.commands (c.args.row - 1) _ lt f c.fixed-line-line.ensures in
+    let l = code_line s.inputs s.commands (c.args.row - 1) _ lt f c.fixed_line-line.ensures in
     let p = row_found (fixed_meaning s.states s.inputs us) c.args.region c.args.row c.args.coefficients.now
     (such_row _ _ _ _ _ (ok_of s) c.if-region-ne1.false c.if-row-lt1.false c.if-row-self.false)
     (eq-eqb _ _ c.if-coefficients-self.false) in
@@ -73,6 +73,6 @@ returns c =
       answer = ap Ok (to_z-of_z w64 _ h ∙ ap (λ r. r.right) l ∙ sym (ap (λ r. r.right) t)) ∙ p.0;
       fills =
           filled s.states s.inputs ((c.args.row - 1) / 2) _ _ c.args.coefficients.now _ _ _ (zeros_front s.states s.sizes.1)
-          (length-replicate s.states (pos 0)) c.if-coefficients-self.false c.fill-row.ensures (t ∙ ap (row_from (replicate s.states (pos 0)) s.inputs ((c.args.row - 1) / 2)) (sym l))
+          (length-replicate s.states (pos 0)) c.if-coefficients-self.false c.fill_row.ensures (t ∙ ap (row_from (replicate s.states (pos 0)) s.inputs ((c.args.row - 1) / 2)) (sym l))
           ∙ p.1;
     }

@@ -3,13 +3,13 @@ use Rattle.std.proofs.lemmas.Int.{to_z-of_z}
 use Rattle.control.proofs.Inputs.{fit, high_edge_read}
 use Rattle.control.proofs.input.Input.high_edge.Goals as goal
 
-pub overflow-add-result : goal.overflow-add-result
-overflow-add-result c =
+pub overflow_add-result : goal.overflow_add-result
+overflow_add-result c =
     let k = fit c.args.self.now c.requires in
     let a = k.h in let b = k.h1 in simp to_z-of_z b
 
-pub overflow-mul-result : goal.overflow-mul-result
-overflow-mul-result c =
+pub overflow_mul-result : goal.overflow_mul-result
+overflow_mul-result c =
     let k = fit c.args.self.now c.requires in
     let a = k.q in let b = k.h in let d = k.h1 in let f = k.high in simp to_z-of_z f
 

@@ -7,8 +7,8 @@ use Rattle.control.specs.Saturated.{lines}
 use Rattle.control.proofs.Inputs.{ok_input, fit, line_is}
 use Rattle.control.proofs.input.Input.high_line.Goals as goal
 
-pub overflow-sub-result-in-default : goal.overflow-sub-result-in-default
-overflow-sub-result-in-default c =
+pub overflow_sub-result-in_default : goal.overflow_sub-result-in_default
+overflow_sub-result-in_default c =
     let k = fit c.args.self.now c.requires.limits in
     difference_fits _ _ _ _ refl c.high_edge.ensures k.k k.high k.high_right
 
@@ -17,8 +17,8 @@ returns-in-1 c =
     let i = c.args.self.now in
     line_is (lines i High) c.args.k 1 (pos 0) _ _ _ _ c.in-1.is refl refl (negated_read setting_limit _ (lit< tt) (ok_input i c.requires.limits).high_small)
 
-pub returns-in-default : goal.returns-in-default
-returns-in-default c =
+pub returns-in_default : goal.returns-in_default
+returns-in_default c =
     let i = c.args.self.now in
     let k = fit i c.requires.limits in
     let e : c.args.k ≡ 2 = omega arith in

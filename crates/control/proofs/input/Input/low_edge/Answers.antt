@@ -3,13 +3,13 @@ use Rattle.std.proofs.lemmas.Int.{to_z-of_z}
 use Rattle.control.proofs.Inputs.{fit, low_edge_read}
 use Rattle.control.proofs.input.Input.low_edge.Goals as goal
 
-pub overflow-mul-result : goal.overflow-mul-result
-overflow-mul-result c =
+pub overflow_mul-result : goal.overflow_mul-result
+overflow_mul-result c =
     let k = fit c.args.self.now c.requires in
     let a = k.q in let b = k.l in let f = k.ql in simp to_z-of_z f
 
-pub overflow-sub-result : goal.overflow-sub-result
-overflow-sub-result c =
+pub overflow_sub-result : goal.overflow_sub-result
+overflow_sub-result c =
     let k = fit c.args.self.now c.requires in
     let a = k.q in let b = k.l in let f = k.ql in let d = k.low in simp to_z-of_z d
 

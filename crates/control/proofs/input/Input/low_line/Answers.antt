@@ -6,13 +6,13 @@ use Rattle.control.specs.Saturated.{lines}
 use Rattle.control.proofs.Inputs.{fit, line_is}
 use Rattle.control.proofs.input.Input.low_line.Goals as goal
 
-pub overflow-sub-result-in-default : goal.overflow-sub-result-in-default
-overflow-sub-result-in-default c =
+pub overflow_sub-result-in_default : goal.overflow_sub-result-in_default
+overflow_sub-result-in_default c =
     let k = fit c.args.self.now c.requires.limits in
     difference_fits _ _ _ _ c.low_edge.ensures refl k.low k.k k.low_right
 
-pub returns-in-default : goal.returns-in-default
-returns-in-default c =
+pub returns-in_default : goal.returns-in_default
+returns-in_default c =
     let i = c.args.self.now in
     let k = fit i c.requires.limits in
     let e : c.args.k ≡ 2 = omega arith in

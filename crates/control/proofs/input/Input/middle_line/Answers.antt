@@ -7,8 +7,8 @@ use Rattle.control.specs.Saturated.{most_divisor, lines}
 use Rattle.control.proofs.Inputs.{ok_input, fit, middle_read, line_is}
 use Rattle.control.proofs.input.Input.middle_line.Goals as goal
 
-pub overflow-sub-result-in-1-2 : goal.overflow-sub-result-in-1-2
-overflow-sub-result-in-1-2 c =
+pub overflow_sub-result-in-1-2 : goal.overflow_sub-result-in-1-2
+overflow_sub-result-in-1-2 c =
     let k = fit c.args.self.now c.requires.limits in
     let a = k.q in let b = k.k in let d = k.q1 in let f = k.middle_right in simp to_z-of_z f
 

@@ -11,11 +11,11 @@ returns-in-1 c =
     c.rows_first.ensures ∙ ap (λ d. length (lines (get_or s.inputs 0 no_input) d)) c.numbered.ensures
     ∙ rows_one s.states s.count c.args.r s.inputs s.two c.in-1.is
 
-pub returns-in-default : goal.returns-in-default
-returns-in-default c =
+pub returns-in_default : goal.returns-in_default
+returns-in_default c =
     let s = c.args.self.now in
     let e : s.count ≡ 2 = search rules in
     let a = c.rows_first.ensures ∙ ap (λ d. length (lines (get_or s.inputs 0 no_input) d)) c.numbered.ensures in
-    let b = c.rows.ensures ∙ ap (λ d. length (lines (get_or s.inputs 1 no_input) d)) c.numbered-in-default.ensures in
+    let b = c.rows.ensures ∙ ap (λ d. length (lines (get_or s.inputs 1 no_input) d)) c.numbered-in_default.ensures in
     ap (λ k. k + c.rows.result) a ∙ ap (λ k. length (first_lines c.args.r s.inputs) + k) b
     ∙ rows_two s.states s.count c.args.r s.inputs s.two e

@@ -20,12 +20,12 @@ returns-then-row-lt1 c =
     let s = c.args.self.now in
     let us = take s.count s.inputs in
     let k = c.args.region in
-    let high : k ≤ length (saturated_partition s.states us) = omega (arith, c.region-count.ensures) in
+    let high : k ≤ length (saturated_partition s.states us) = omega (arith, c.region_count.ensures) in
     let p = row_missing (saturated_meaning s.states s.count us) k c.args.row c.args.coefficients.now
     (no_such_row s.states s.count us k c.args.row c.if-region-lt1.false high
     (elim c.then-row-lt1.branch [
       | then-row-lt1-via-then-row-lt1 w ↦ inl w.if-row-lt1.true
-      | then-row-lt1-via-else-row-lt1+then-row-row-count w ↦ inr (omega (arith, w.row-count.ensures, w.if-row-row-count.true))
+      | then-row-lt1-via-else-row-lt1+then-row-row-count w ↦ inr (omega (arith, w.row_count.ensures, w.if-row-row_count.true))
     ])) in
     record { answer = p.0; fills = p.1 }
 
@@ -34,15 +34,15 @@ returns-then-coefficients-self c =
     let s = c.args.self.now in
     let us = take s.count s.inputs in
     let k = c.args.region in
-    let high : k ≤ length (saturated_partition s.states us) = omega (arith, c.region-count.ensures) in
-    let h : c.args.row ≤ length (region_rows s.states us (k - 1)) = omega (arith, c.row-count.ensures) in
+    let high : k ≤ length (saturated_partition s.states us) = omega (arith, c.region_count.ensures) in
+    let h : c.args.row ≤ length (region_rows s.states us (k - 1)) = omega (arith, c.row_count.ensures) in
     let p = row_short (saturated_meaning s.states s.count us) k c.args.row c.args.coefficients.now
     (such_row s.states s.count us k c.args.row c.if-region-lt1.false high c.if-row-lt1.false h)
     (ne_eqb _ _ c.if-coefficients-self.true) in
     record { answer = p.0; fills = p.1 }
 
-pub fill-row-requires : goal.fill-row-requires
-fill-row-requires c =
+pub fill_row-requires : goal.fill_row-requires
+fill_row-requires c =
     let s = c.args.self.now in
     let j = c.placed-placed.result.input in
     let i = get_or s.inputs j no_input in
@@ -67,8 +67,8 @@ returns c =
     let le : s.count ≤ length s.inputs = omega arith in
     let ok = ok_input i (input_ok_at s.inputs j lt s.limits) in
     let f : SFits w64 l.right = search rules in
-    let high : k ≤ length (saturated_partition s.states us) = omega (arith, c.region-count.ensures) in
-    let h : c.args.row ≤ length (region_rows s.states us (k - 1)) = omega (arith, c.row-count.ensures) in
+    let high : k ≤ length (saturated_partition s.states us) = omega (arith, c.region_count.ensures) in
+    let h : c.args.row ≤ length (region_rows s.states us (k - 1)) = omega (arith, c.row_count.ensures) in
     let p = row_found (saturated_meaning s.states s.count us) k c.args.row c.args.coefficients.now
     (such_row s.states s.count us k c.args.row c.if-region-lt1.false high c.if-row-lt1.false h)
     (eq-eqb _ _ c.if-coefficients-self.false) in
@@ -78,6 +78,6 @@ returns c =
       answer = ap Ok (to_z-of_z w64 _ f ∙ sym (ap (λ r. r.right) t)) ∙ p.0;
       fills =
           filled s.states s.count j _ _ c.args.coefficients.now _ _ _ (front_slice s.states i.gains) (gains_long s.states i s.sizes.1 ok)
-          c.if-coefficients-self.false c.fill-row.ensures t'
+          c.if-coefficients-self.false c.fill_row.ensures t'
           ∙ p.1;
     }

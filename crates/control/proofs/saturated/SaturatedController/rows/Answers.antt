@@ -12,6 +12,6 @@ returns c =
     let us = take s.count s.inputs in
     let m = saturated_meaning s.states s.count us in
     let k = c.args.region in
-    let high : k ≤ length (saturated_partition s.states us) = omega (arith, c.region-count.ensures) in
-    ap Ok (c.row-count.ensures ∙ sym (ap length (region_is s.states s.count us k c.if-region-lt1.false high)))
+    let high : k ≤ length (saturated_partition s.states us) = omega (arith, c.region_count.ensures) in
+    ap Ok (c.row_count.ensures ∙ sym (ap length (region_is s.states s.count us k c.if-region-lt1.false high)))
     ∙ rows_found m k (there (saturated_partition s.states us) k c.if-region-lt1.false high)

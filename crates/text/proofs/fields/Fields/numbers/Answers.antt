@@ -26,14 +26,14 @@ loop-i-init g c =
       ap (λ f. onto [] (numbers_of c.args.line f c.row_limits-used.result.now (left_of c.args.self))) e ∙ onto_none _,
     )
 
-pub returns-in-err-row : goal.returns-in-err-row
-returns-in-err-row g c =
+pub returns-in_err-row : goal.returns-in_err-row
+returns-in_err-row g c =
     let e : c.from.result + c.loop-i.i + 1 ≡ c.args.before + c.loop-i.i + 1 = omega arith in
     record {
-      value = err_is c.from-residual.result c.in-err-row.field-0.0 c.from-residual.ensures.1
-          ∙ over g.row.N c.args.line c.args.before c.row-limits-used.result.now c.args.limits.now (left_of c.args.self) _ c.row-limits-used.ensures.value
-          (row_stops c.args.line _ c.loop-i.i (take c.loop-i.i c.loop-i.row) c.row-limits-used.result.now none (left_of c.loop-i.self) _ _ c.loop-i-test.true
-          (c.in-err-row.ensures.value ∙ ap (λ f. next_number (place c.args.line f) (get_or c.row-limits-used.result.now c.loop-i.i none) (left_of c.loop-i.self)) e) c.loop-i.invariant.2);
+      value = err_is c.from_residual.result c.in_err-row.field-0.0 c.from_residual.ensures.1
+          ∙ over g.row.N c.args.line c.args.before c.row_limits-used.result.now c.args.limits.now (left_of c.args.self) _ c.row_limits-used.ensures.value
+          (row_stops c.args.line _ c.loop-i.i (take c.loop-i.i c.loop-i.row) c.row_limits-used.result.now none (left_of c.loop-i.self) _ _ c.loop-i-test.true
+          (c.in_err-row.ensures.value ∙ ap (λ f. next_number (place c.args.line f) (get_or c.row_limits-used.result.now c.loop-i.i none) (left_of c.loop-i.self)) e) c.loop-i.invariant.2);
     }
 
 pub loop-i-preserved : goal.loop-i-preserved
@@ -49,15 +49,15 @@ loop-i-preserved g c =
           (h.value ∙ ap (λ f. next_number (place c.args.line f) (get_or c.row_limits-used.result.now c.loop-i.i none) (left_of c.loop-i.self)) e) h.left c.loop-i.invariant.2,
     )
 
-pub returns-in-err-end : goal.returns-in-err-end
-returns-in-err-end g c =
-    let k : c.loop-i.i ≡ length c.row-limits-used.result.now = omega arith in
-    let e : c.from-2.result + length c.row-limits-used.result.now + 1 ≡ c.args.before + c.loop-i.i + 1 = omega arith in
+pub returns-in_err-end : goal.returns-in_err-end
+returns-in_err-end g c =
+    let k : c.loop-i.i ≡ length c.row_limits-used.result.now = omega arith in
+    let e : c.from-2.result + length c.row_limits-used.result.now + 1 ≡ c.args.before + c.loop-i.i + 1 = omega arith in
     record {
-      value = err_is c.from-residual-in-err-end.result c.in-err-end.field-0.0 c.from-residual-in-err-end.ensures.1
-          ∙ over g.row.N c.args.line c.args.before c.row-limits-used.result.now c.args.limits.now (left_of c.args.self) _ c.row-limits-used.ensures.value
-          (row_ends c.args.line _ c.loop-i.i (take c.loop-i.i c.loop-i.row) c.row-limits-used.result.now (left_of c.loop-i.self) _ _ c.loop-i-test.false
-          (c.in-err-end.ensures ∙ ap (λ f. end_of (place c.args.line f) (left_of c.loop-i.self)) e) c.loop-i.invariant.2);
+      value = err_is c.from_residual-in_err-end.result c.in_err-end.field-0.0 c.from_residual-in_err-end.ensures.1
+          ∙ over g.row.N c.args.line c.args.before c.row_limits-used.result.now c.args.limits.now (left_of c.args.self) _ c.row_limits-used.ensures.value
+          (row_ends c.args.line _ c.loop-i.i (take c.loop-i.i c.loop-i.row) c.row_limits-used.result.now (left_of c.loop-i.self) _ _ c.loop-i-test.false
+          (c.in_err-end.ensures ∙ ap (λ f. end_of (place c.args.line f) (left_of c.loop-i.self)) e) c.loop-i.invariant.2);
     }
 
 pub returns : goal.returns
