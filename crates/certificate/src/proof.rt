@@ -87,14 +87,14 @@ fn test_equations<C: Controller>(
     scale: i64,
     multipliers: &[i64],
 ) -> Result<(), ProofFault>
-    requires states { states controller.now ≡ case.now.states }
-    requires inputs { inputs controller.now ≡ case.now.inputs }
-    requires region { present (partition controller.now) region ≡ true }
+    requires states { C.states controller.now ≡ case.now.states }
+    requires inputs { C.inputs controller.now ≡ case.now.inputs }
+    requires region { present (C.partition controller.now) region ≡ true }
     requires face { present (faces (values_of case.now)) face ≡ true }
-    requires long { let c = controller.now in length multipliers.now ≡ length (system_of (values_of case.now) (meaning (states c) (inputs c) (partition c) (feedback c)) region) }
+    requires long { let c = controller.now in length multipliers.now ≡ length (system_of (values_of case.now) (meaning (C.states c) (C.inputs c) (C.partition c) (C.feedback c)) region) }
     requires scale { in_limit scale ≡ true }
     requires limits { all_in_limit multipliers.now ≡ true }
-    ensures value { let c = controller.now in let k = values_of case.now in result ≡ equations_of k (system_of k (meaning (states c) (inputs c) (partition c) (feedback c)) region) (face_of k face) scale multipliers.now }
+    ensures value { let c = controller.now in let k = values_of case.now in result ≡ equations_of k (system_of k (meaning (C.states c) (C.inputs c) (C.partition c) (C.feedback c)) region) (face_of k face) scale multipliers.now }
 {
     let width = case.states + case.inputs + case.pushes;
     let columns = width + case.states;
@@ -120,8 +120,8 @@ pub fn test_proof<C: Controller>(
     scale: i64,
     multipliers: &[i64],
 ) -> Result<(), ProofFault>
-    ensures value { let c = controller.now in result ≡ proof_answer (values_of case.now) (meaning (states c) (inputs c) (partition c) (feedback c)) region face scale multipliers.now }
-    ensures form { let c = controller.now in ProofForm (values_of case.now) (meaning (states c) (inputs c) (partition c) (feedback c)) region face scale multipliers.now }
+    ensures value { let c = controller.now in result ≡ proof_answer (values_of case.now) (meaning (C.states c) (C.inputs c) (C.partition c) (C.feedback c)) region face scale multipliers.now }
+    ensures form { let c = controller.now in ProofForm (values_of case.now) (meaning (C.states c) (C.inputs c) (C.partition c) (C.feedback c)) region face scale multipliers.now }
 {
     let size = system_size(case, controller, region)?;
     if face < 1 || face > 2 * case.states + case.extras {

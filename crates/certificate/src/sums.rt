@@ -36,14 +36,14 @@ pub(crate) fn add_up<C: Controller>(
     multipliers: &[i64],
     sums: &mut [i64],
 ) -> i64
-    requires states { states controller.now ≡ case.now.states }
-    requires inputs { inputs controller.now ≡ case.now.inputs }
-    requires region { present (partition controller.now) region ≡ true }
-    requires long { let c = controller.now in length multipliers.now ≡ length (system_of (values_of case.now) (meaning (states c) (inputs c) (partition c) (feedback c)) region) }
+    requires states { C.states controller.now ≡ case.now.states }
+    requires inputs { C.inputs controller.now ≡ case.now.inputs }
+    requires region { present (C.partition controller.now) region ≡ true }
+    requires long { let c = controller.now in length multipliers.now ≡ length (system_of (values_of case.now) (meaning (C.states c) (C.inputs c) (C.partition c) (C.feedback c)) region) }
     requires limits { all_in_limit multipliers.now ≡ true }
     requires clear { sums.old ≡ none (column_count (values_of case.now)) }
-    ensures columns { let c = controller.now in let k = values_of case.now in sums.new ≡ column_sums (column_count k) multipliers.now (system_of k (meaning (states c) (inputs c) (partition c) (feedback c)) region) }
-    ensures right { let c = controller.now in result ≡ right_sum multipliers.now (system_of (values_of case.now) (meaning (states c) (inputs c) (partition c) (feedback c)) region) }
+    ensures columns { let c = controller.now in let k = values_of case.now in sums.new ≡ column_sums (column_count k) multipliers.now (system_of k (meaning (C.states c) (C.inputs c) (C.partition c) (C.feedback c)) region) }
+    ensures right { let c = controller.now in result ≡ right_sum multipliers.now (system_of (values_of case.now) (meaning (C.states c) (C.inputs c) (C.partition c) (C.feedback c)) region) }
 {
     let columns = sums.len();
     let mut sum = 0;

@@ -54,10 +54,10 @@ fn read_index(fields: &mut Fields, place: Place, count: usize) -> Result<usize, 
 
 // How many rows the system of a region has.
 fn row_count<C: Controller>(case: &Case, controller: &C, region: usize) -> usize
-    requires states { states controller.now ≡ case.now.states }
-    requires inputs { inputs controller.now ≡ case.now.inputs }
-    requires region { (1 ≤ region) × (region ≤ length (partition controller.now)) }
-    ensures value { let c = controller.now in result ≡ length (system_of (values_of case.now) (meaning (states c) (inputs c) (partition c) (feedback c)) region) }
+    requires states { C.states controller.now ≡ case.now.states }
+    requires inputs { C.inputs controller.now ≡ case.now.inputs }
+    requires region { (1 ≤ region) × (region ≤ length (C.partition controller.now)) }
+    ensures value { let c = controller.now in result ≡ length (system_of (values_of case.now) (meaning (C.states c) (C.inputs c) (C.partition c) (C.feedback c)) region) }
     ensures few { result ≤ most_system_rows }
 {
     system_size(case, controller, region).unwrap().rows
@@ -72,13 +72,13 @@ fn prove<C: Controller>(
     face: usize,
     numbers: &[i64],
 ) -> Result<(), CheckFault>
-    requires states { states controller.now ≡ case.now.states }
-    requires inputs { inputs controller.now ≡ case.now.inputs }
-    requires region { (1 ≤ region) × (region ≤ length (partition controller.now)) }
+    requires states { C.states controller.now ≡ case.now.states }
+    requires inputs { C.inputs controller.now ≡ case.now.inputs }
+    requires region { (1 ≤ region) × (region ≤ length (C.partition controller.now)) }
     requires face { (1 ≤ face) × (face ≤ length (faces (values_of case.now))) }
-    requires long { let c = controller.now in length numbers.now ≡ 1 + length (system_of (values_of case.now) (meaning (states c) (inputs c) (partition c) (feedback c)) region) }
+    requires long { let c = controller.now in length numbers.now ≡ 1 + length (system_of (values_of case.now) (meaning (C.states c) (C.inputs c) (C.partition c) (C.feedback c)) region) }
     requires limits { all_in_limit numbers.now ≡ true }
-    ensures { let c = controller.now in result ≡ equations_at (values_of case.now) (meaning (states c) (inputs c) (partition c) (feedback c)) line (proof_line region face numbers.now) }
+    ensures { let c = controller.now in result ≡ equations_at (values_of case.now) (meaning (C.states c) (C.inputs c) (C.partition c) (C.feedback c)) line (proof_line region face numbers.now) }
 {
     match test_proof(case, controller, region, face, numbers[0], &numbers[1..]) {
         Ok(()) => Ok(()),
@@ -100,9 +100,9 @@ fn check_line<C: Controller>(
     bytes: &[u8],
     named: &mut Named,
 ) -> Result<(), CheckFault>
-    requires states { states controller.now ≡ case.now.states }
-    requires inputs { inputs controller.now ≡ case.now.inputs }
-    ensures { let c = controller.now in ((ls : List ProofLine) → Marks named.old.flags ls → LineTold (line_of (values_of case.now) (meaning (states c) (inputs c) (partition c) (feedback c)) ls line bytes.now) ls named.new.flags result) }
+    requires states { C.states controller.now ≡ case.now.states }
+    requires inputs { C.inputs controller.now ≡ case.now.inputs }
+    ensures { let c = controller.now in ((ls : List ProofLine) → Marks named.old.flags ls → LineTold (line_of (values_of case.now) (meaning (C.states c) (C.inputs c) (C.partition c) (C.feedback c)) ls line bytes.now) ls named.new.flags result) }
 {
     let mut fields = Fields::of(bytes);
     let region = read_index(&mut fields, Place { line, field: 1 }, controller.regions())?;
@@ -126,9 +126,9 @@ fn check_line<C: Controller>(
 
 // Judges the proof lines of a case in their order, and then whether they name every pair.
 pub(crate) fn check_lines<C: Controller>(case: &Case, controller: &C) -> Result<(), CheckFault>
-    requires states { states controller.now ≡ case.now.states }
-    requires inputs { inputs controller.now ≡ case.now.inputs }
-    ensures { let c = controller.now in result ≡ text_check (values_of case.now) (meaning (states c) (inputs c) (partition c) (feedback c)) [] case.now.line case.now.proofs.now }
+    requires states { C.states controller.now ≡ case.now.states }
+    requires inputs { C.inputs controller.now ≡ case.now.inputs }
+    ensures { let c = controller.now in result ≡ text_check (values_of case.now) (meaning (C.states c) (C.inputs c) (C.partition c) (C.feedback c)) [] case.now.line case.now.proofs.now }
 {
     let mut named = Named::none();
     let mut rest = case.proofs;

@@ -34,10 +34,10 @@ pub fn check<'c, 't, C: Controller>(
     case: &'c Case<'t>,
     controller: &C,
 ) -> Result<Trusted<'c, 't>, CheckFault>
-    ensures value { let c = controller.now in let k = case.now in trusted_answer result ≡ check_of (values_of k) (meaning (states c) (inputs c) (partition c) (feedback c)) k.line k.proofs.now }
+    ensures value { let c = controller.now in let k = case.now in trusted_answer result ≡ check_of (values_of k) (meaning (C.states c) (C.inputs c) (C.partition c) (C.feedback c)) k.line k.proofs.now }
     ensures kept { IfOk result (λ t. t.case.now ≡ case.now) }
-    ensures form { let c = controller.now in let k = case.now in CheckForm (values_of k) (meaning (states c) (inputs c) (partition c) (feedback c)) k.line k.proofs.now }
-    ensures sound { let c = controller.now in OnOk result (Invariant (values_of case.now) (meaning (states c) (inputs c) (partition c) (feedback c))) }
+    ensures form { let c = controller.now in let k = case.now in CheckForm (values_of k) (meaning (C.states c) (C.inputs c) (C.partition c) (C.feedback c)) k.line k.proofs.now }
+    ensures sound { let c = controller.now in OnOk result (Invariant (values_of case.now) (meaning (C.states c) (C.inputs c) (C.partition c) (C.feedback c))) }
 {
     let (states, inputs) = controller.sizes();
     if states != case.states || inputs != case.inputs {

@@ -1,8 +1,7 @@
 -- The lemmas of the crate.
-pub mod Spread
 pub mod Outcomes
 pub mod Meanings
-pub mod FixedLaws
-pub mod Inputs
-pub mod SaturatedLaws
+pub mod FixedKnown
+pub mod FixedRows
+pub mod SaturatedKnown
 pub mod SaturatedRows

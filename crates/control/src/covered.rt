@@ -9,9 +9,9 @@ use super::fault::ControlFault;
 
 // The command at the state x goes into u; all rows of some region hold there.
 pub fn covered_command<C: Controller>(c: &C, x: &[i64], u: &mut [i64]) -> Result<(), ControlFault>
-    ensures answer { let k = c.now in result ≡ command_answer (meaning (states k) (inputs k) (partition k) (feedback k)) x.now u.old }
-    ensures fills { let k = c.now in u.new ≡ command_fills (meaning (states k) (inputs k) (partition k) (feedback k)) x.now u.old }
-    ensures covered { is_ok result ≡ true → Covered (partition c.now) (x.now ++ u.new) }
+    ensures answer { let k = c.now in result ≡ command_answer (meaning (C.states k) (C.inputs k) (C.partition k) (C.feedback k)) x.now u.old }
+    ensures fills { let k = c.now in u.new ≡ command_fills (meaning (C.states k) (C.inputs k) (C.partition k) (C.feedback k)) x.now u.old }
+    ensures covered { is_ok result ≡ true → Covered (C.partition c.now) (x.now ++ u.new) }
 {
     c.command(x, u)
 }

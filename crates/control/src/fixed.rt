@@ -4,8 +4,7 @@ ghost use Rattle.arith.specs.Bounds.{within, all_within};
 ghost use Rattle.control.specs.Limits.{most_states, most_inputs, setting_limit};
 ghost use Rattle.control.specs.Lines.{no_line};
 ghost use Rattle.control.specs.Fixed.{fixed_ok, fixed_lines, fixed_partition};
-ghost use Rattle.std.proofs.Common.{rules};
-ghost use native.Mathlib.Omega;
+ghost use Rattle.control.specs.FixedLaws.{ok_from, fixed_limits, fixed_cover};
 
 use super::controller::Controller;
 use super::fault::ControlFault;
@@ -80,9 +79,9 @@ impl Controller for Fixed {
 
     ghost feedback = { λ s _. take s.inputs s.commands };
 
-    ghost limits = { first_of (Prim.search rules, Prim.grind (Omega.arith, Self.row.coded.inj)) };
+    ghost limits = { λ c. fixed_limits c.states c.inputs (take c.inputs c.commands) (ok_from c.states c.inputs c.commands c.sizes c.two c.small) };
 
-    ghost cover = { first_of (Prim.search rules, Prim.grind (Omega.arith, Self.row.coded.inj)) };
+    ghost cover = { λ c. fixed_cover c.states c.inputs (take c.inputs c.commands) (ok_from c.states c.inputs c.commands c.sizes c.two c.small) };
 
     fn sizes(&self) -> (usize, usize) {
         (self.states, self.inputs)

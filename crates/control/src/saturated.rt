@@ -8,8 +8,7 @@ ghost use Rattle.control.specs.Answers.{no_row};
 ghost use Rattle.control.specs.Lines.{row_from};
 ghost use Rattle.control.specs.declared.input.Digit.TheVariants.{Low};
 ghost use Rattle.control.specs.Saturated.{inputs_ok, saturated_ok, saturated_command, saturated_partition, region_rows, gains_at, digits_at, region_answer};
-ghost use Rattle.std.proofs.Common.{rules};
-ghost use native.Mathlib.Omega;
+ghost use Rattle.control.specs.SaturatedLaws.{ok_from, saturated_limits, saturated_cover};
 
 use super::controller::Controller;
 use super::fault::ControlFault;
@@ -155,9 +154,9 @@ impl Controller for Saturated {
 
     ghost feedback = { λ s. saturated_command s.states (take s.count s.inputs) };
 
-    ghost limits = { first_of (Prim.search rules, Prim.grind (Omega.arith, Self.row.coded.inj)) };
+    ghost limits = { λ c. saturated_limits c.states c.count (take c.count c.inputs) (ok_from c.states c.count c.inputs c.sizes c.two c.limits) };
 
-    ghost cover = { first_of (Prim.search rules, Prim.grind (Omega.arith, Self.row.coded.inj)) };
+    ghost cover = { λ c. saturated_cover c.states c.count (take c.count c.inputs) (ok_from c.states c.count c.inputs c.sizes c.two c.limits) };
 
     fn sizes(&self) -> (usize, usize) {
         (self.states, self.count)

@@ -1,10 +1,10 @@
 -- A law of either make keeps the limits of a controller, and covers.
 use Rattle.control.specs.Cover.{Cover}
 use Rattle.control.specs.Limits.{Limits}
-use Rattle.control.proofs.FixedLaws.{fixed_limits, fixed_cover}
+use Rattle.control.specs.FixedLaws.{fixed_limits, fixed_cover}
 use Rattle.control.proofs.FixedLaws as fixed
-use Rattle.control.proofs.SaturatedLaws.{saturated_limits, saturated_cover}
-use Rattle.control.proofs.SaturatedLaws as saturated
+use Rattle.control.specs.SaturatedLaws.{saturated_limits, saturated_cover}
+use Rattle.control.specs.SaturatedLaws as saturated
 use Rattle.laws.specs.Controllers.{controlled}
 use Rattle.laws.specs.declared.law.Law.{Law}
 use Rattle.laws.specs.declared.law.Law.TheVariants.{Saturated, Fixed}

@@ -66,12 +66,12 @@ pub(crate) fn region_row<C: Controller>(
     j: usize,
     coefficients: &mut [i64],
 ) -> i64
-    requires states { states controller.now ≡ case.now.states }
-    requires inputs { inputs controller.now ≡ case.now.inputs }
-    requires region { present (partition controller.now) region ≡ true }
-    requires place { let c = controller.now in j < length (region_of (meaning (states c) (inputs c) (partition c) (feedback c)) region) }
+    requires states { C.states controller.now ≡ case.now.states }
+    requires inputs { C.inputs controller.now ≡ case.now.inputs }
+    requires region { present (C.partition controller.now) region ≡ true }
+    requires place { let c = controller.now in j < length (region_of (meaning (C.states c) (C.inputs c) (C.partition c) (C.feedback c)) region) }
     requires long { length coefficients.old ≡ column_count (values_of case.now) }
-    ensures { let c = controller.now in filled coefficients.new result ≡ over_commands (values_of case.now) (slice_index_or (region_of (meaning (states c) (inputs c) (partition c) (feedback c)) region) j no_row) }
+    ensures { let c = controller.now in filled coefficients.new result ≡ over_commands (values_of case.now) (slice_index_or (region_of (meaning (C.states c) (C.inputs c) (C.partition c) (C.feedback c)) region) j no_row) }
 {
     clear(coefficients);
     let width = case.states + case.inputs;

@@ -22,13 +22,13 @@ fn fill_row<C: Controller>(
     j: usize,
     coefficients: &mut [i64],
 ) -> i64
-    requires states { states controller.now ≡ case.now.states }
-    requires inputs { inputs controller.now ≡ case.now.inputs }
-    requires region { present (partition controller.now) region ≡ true }
-    requires rows { let c = controller.now in rows ≡ length (system_of (values_of case.now) (meaning (states c) (inputs c) (partition c) (feedback c)) region) }
+    requires states { C.states controller.now ≡ case.now.states }
+    requires inputs { C.inputs controller.now ≡ case.now.inputs }
+    requires region { present (C.partition controller.now) region ≡ true }
+    requires rows { let c = controller.now in rows ≡ length (system_of (values_of case.now) (meaning (C.states c) (C.inputs c) (C.partition c) (C.feedback c)) region) }
     requires place { j < rows }
     requires long { length coefficients.old ≡ column_count (values_of case.now) }
-    ensures { let c = controller.now in filled coefficients.new result ≡ slice_index_or (system_of (values_of case.now) (meaning (states c) (inputs c) (partition c) (feedback c)) region) j no_row }
+    ensures { let c = controller.now in filled coefficients.new result ≡ slice_index_or (system_of (values_of case.now) (meaning (C.states c) (C.inputs c) (C.partition c) (C.feedback c)) region) j no_row }
 {
     let boxes = 2 * case.states;
     let faces = boxes + case.extras;
@@ -55,8 +55,8 @@ pub fn system_row<C: Controller>(
     row: usize,
     coefficients: &mut [i64],
 ) -> Result<i64, SystemFault>
-    ensures answer { let c = controller.now in result ≡ system_row_answer (values_of case.now) (meaning (states c) (inputs c) (partition c) (feedback c)) region row coefficients.old }
-    ensures fills { let c = controller.now in coefficients.new ≡ system_row_fills (values_of case.now) (meaning (states c) (inputs c) (partition c) (feedback c)) region row coefficients.old }
+    ensures answer { let c = controller.now in result ≡ system_row_answer (values_of case.now) (meaning (C.states c) (C.inputs c) (C.partition c) (C.feedback c)) region row coefficients.old }
+    ensures fills { let c = controller.now in coefficients.new ≡ system_row_fills (values_of case.now) (meaning (C.states c) (C.inputs c) (C.partition c) (C.feedback c)) region row coefficients.old }
 {
     let size = system_size(case, controller, region)?;
     if row < 1 || row > size.rows {

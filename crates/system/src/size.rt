@@ -23,9 +23,9 @@ pub fn system_size<C: Controller>(
     controller: &C,
     region: usize,
 ) -> Result<SystemSize, SystemFault>
-    ensures answer { let c = controller.now in result ≡ size_answer (values_of case.now) (meaning (states c) (inputs c) (partition c) (feedback c)) region }
+    ensures answer { let c = controller.now in result ≡ size_answer (values_of case.now) (meaning (C.states c) (C.inputs c) (C.partition c) (C.feedback c)) region }
     ensures limits { IfOk result (λ size. (size.rows ≤ most_system_rows) × (size.columns ≤ most_columns)) }
-    ensures bridge { let c = controller.now in OnOk result (Bridge (values_of case.now) (region_of (meaning (states c) (inputs c) (partition c) (feedback c)) region)) }
+    ensures bridge { let c = controller.now in OnOk result (Bridge (values_of case.now) (region_of (meaning (C.states c) (C.inputs c) (C.partition c) (C.feedback c)) region)) }
 {
     let (states, inputs) = controller.sizes();
     if states != case.states || inputs != case.inputs {

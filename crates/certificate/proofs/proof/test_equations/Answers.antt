@@ -22,10 +22,10 @@ use Rattle.certificate.proofs.proof.test_equations.Goals as goal
 
 -- what the controller means
 abbrev meant : (g : given.Over) → g.row.C.Denot → Meaning
-meant g k = meaning (g.row.C.Controller.states k) (g.row.C.Controller.inputs k) (g.row.C.Controller.partition k) (g.row.C.Controller.feedback k)
+meant g k = meaning (g.C.Controller.states k) (g.C.Controller.inputs k) (g.C.Controller.partition k) (g.C.Controller.feedback k)
 
 -- region and face are there
-ready_of : (g : given.Over) (k : g.row.C.Denot) (v : Case) (region face : ℕ) → g.row.C.Controller.states k ≡ v.states → g.row.C.Controller.inputs k ≡ v.inputs → present (g.row.C.Controller.partition k) region ≡ true → present (faces (values_of v)) face ≡ true → FaceReady v (meant g k) region face
+ready_of : (g : given.Over) (k : g.row.C.Denot) (v : Case) (region face : ℕ) → g.C.Controller.states k ≡ v.states → g.C.Controller.inputs k ≡ v.inputs → present (g.C.Controller.partition k) region ≡ true → present (faces (values_of v)) face ≡ true → FaceReady v (meant g k) region face
 ready_of g k v region face es ei there on = record { ready = record { states = es; inputs = ei; there = there }; limits = g.met.C.Controller.limits k; there = on }
 
 pub add_up-sum-requires : goal.add_up-sum-requires

@@ -14,7 +14,7 @@ use Rattle.certificate.proofs.proof.test_proof.Goals.{then-face-lt1-via-then-fac
 
 -- what the controller means
 abbrev meant : (g : given.Over) → g.row.C.Denot → Meaning
-meant g k = meaning (g.row.C.Controller.states k) (g.row.C.Controller.inputs k) (g.row.C.Controller.partition k) (g.row.C.Controller.feedback k)
+meant g k = meaning (g.C.Controller.states k) (g.C.Controller.inputs k) (g.C.Controller.partition k) (g.C.Controller.feedback k)
 
 pub returns-in_err-size : goal.returns-in_err-size
 returns-in_err-size g c =

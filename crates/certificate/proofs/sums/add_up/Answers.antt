@@ -20,7 +20,7 @@ use Rattle.certificate.proofs.sums.add_up.Goals.{then-multiplier-ne0, else-multi
 
 -- what the controller means, and its limits
 abbrev meant : (g : given.Over) → g.row.C.Denot → Meaning
-meant g k = meaning (g.row.C.Controller.states k) (g.row.C.Controller.inputs k) (g.row.C.Controller.partition k) (g.row.C.Controller.feedback k)
+meant g k = meaning (g.C.Controller.states k) (g.C.Controller.inputs k) (g.C.Controller.partition k) (g.C.Controller.feedback k)
 
 pub returns : goal.returns
 returns g c =
@@ -39,7 +39,7 @@ loop-i-init g c =
     summed_same N c.args.multipliers.now rows 0 (none N) c.args.sums.now (pos 0) (pos 0) c.requires.clear refl (summed_none N c.args.multipliers.now rows (system_small v m c.args.region ready (g.met.C.Controller.limits k)))
 
 -- a turn of the loop
-turn_of : (g : given.Over) (k : g.row.C.Denot) (v : Case) (region : ℕ) (ms : List ℤ) (i : ℕ) (sums : List ℤ) (sum : ℤ) → g.row.C.Controller.states k ≡ v.states → g.row.C.Controller.inputs k ≡ v.inputs → present (g.row.C.Controller.partition k) region ≡ true → length ms ≡ length (system_of (values_of v) (meant g k) region) → all_in_limit ms ≡ true → i < length ms → Summed (column_count (values_of v)) ms (system_of (values_of v) (meant g k) region) i sums sum → Turn v (meant g k) region ms i sums sum
+turn_of : (g : given.Over) (k : g.row.C.Denot) (v : Case) (region : ℕ) (ms : List ℤ) (i : ℕ) (sums : List ℤ) (sum : ℤ) → g.C.Controller.states k ≡ v.states → g.C.Controller.inputs k ≡ v.inputs → present (g.C.Controller.partition k) region ≡ true → length ms ≡ length (system_of (values_of v) (meant g k) region) → all_in_limit ms ≡ true → i < length ms → Summed (column_count (values_of v)) ms (system_of (values_of v) (meant g k) region) i sums sum → Turn v (meant g k) region ms i sums sum
 turn_of g k v region ms i sums sum es ei there long all lt before =
     record { ready = record { states = es; inputs = ei; there = there }; limits = g.met.C.Controller.limits k; long = long; all = all; lt = lt; before = before }
 

@@ -10,4 +10,4 @@ abbrev pub invariant-loop-i : goal.invariant-loop-i
 invariant-loop-i g l =
     let k = l.controller in
     let v = values_of l.case in
-    Summed (column_count v) l.multipliers (system_of v (meaning (g.row.C.Controller.states k) (g.row.C.Controller.inputs k) (g.row.C.Controller.partition k) (g.row.C.Controller.feedback k)) l.region) l.i l.sums l.sum
+    Summed (column_count v) l.multipliers (system_of v (meaning (g.C.Controller.states k) (g.C.Controller.inputs k) (g.C.Controller.partition k) (g.C.Controller.feedback k)) l.region) l.i l.sums l.sum

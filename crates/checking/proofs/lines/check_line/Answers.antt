@@ -15,7 +15,7 @@ use Rattle.checking.proofs.lines.check_line.Goals as goal
 pub returns-in_err-face : goal.returns-in_err-face
 returns-in_err-face g c ls marks =
     let k = c.args.controller.now in
-    let m = meaning (g.row.C.Controller.states k) (g.row.C.Controller.inputs k) (g.row.C.Controller.partition k) (g.row.C.Controller.feedback k) in
+    let m = meaning (g.C.Controller.states k) (g.C.Controller.inputs k) (g.C.Controller.partition k) (g.C.Controller.feedback k) in
     let v = values_of c.args.case.now in
     let line = c.args.line in
     let bytes = c.args.bytes.now in
@@ -46,7 +46,7 @@ overflow_cast-result g c =
 pub returns-then-has : goal.returns-then-has
 returns-then-has g c ls marks =
     let k = c.args.controller.now in
-    let m = meaning (g.row.C.Controller.states k) (g.row.C.Controller.inputs k) (g.row.C.Controller.partition k) (g.row.C.Controller.feedback k) in
+    let m = meaning (g.C.Controller.states k) (g.C.Controller.inputs k) (g.C.Controller.partition k) (g.C.Controller.feedback k) in
     let v = values_of c.args.case.now in
     let line = c.args.line in
     let bytes = c.args.bytes.now in
@@ -61,7 +61,7 @@ returns-then-has g c ls marks =
 pub returns-in_err-numbers : goal.returns-in_err-numbers
 returns-in_err-numbers g c ls marks =
     let k = c.args.controller.now in
-    let m = meaning (g.row.C.Controller.states k) (g.row.C.Controller.inputs k) (g.row.C.Controller.partition k) (g.row.C.Controller.feedback k) in
+    let m = meaning (g.C.Controller.states k) (g.C.Controller.inputs k) (g.C.Controller.partition k) (g.C.Controller.feedback k) in
     let v = values_of c.args.case.now in
     let line = c.args.line in
     let bytes = c.args.bytes.now in
@@ -83,7 +83,7 @@ returns-in_err-numbers g c ls marks =
 pub prove-requires : goal.prove-requires
 prove-requires g c =
     let k = c.args.controller.now in
-    let m = meaning (g.row.C.Controller.states k) (g.row.C.Controller.inputs k) (g.row.C.Controller.partition k) (g.row.C.Controller.feedback k) in
+    let m = meaning (g.C.Controller.states k) (g.C.Controller.inputs k) (g.C.Controller.partition k) (g.C.Controller.feedback k) in
     let v = values_of c.args.case.now in
     let line = c.args.line in
     let bytes = c.args.bytes.now in
@@ -108,7 +108,7 @@ prove-requires g c =
 pub returns-in_err-prove : goal.returns-in_err-prove
 returns-in_err-prove g c ls marks =
     let k = c.args.controller.now in
-    let m = meaning (g.row.C.Controller.states k) (g.row.C.Controller.inputs k) (g.row.C.Controller.partition k) (g.row.C.Controller.feedback k) in
+    let m = meaning (g.C.Controller.states k) (g.C.Controller.inputs k) (g.C.Controller.partition k) (g.C.Controller.feedback k) in
     let v = values_of c.args.case.now in
     let line = c.args.line in
     let bytes = c.args.bytes.now in
@@ -144,7 +144,7 @@ add-requires g c =
 pub returns : goal.returns
 returns g c ls marks =
     let k = c.args.controller.now in
-    let m = meaning (g.row.C.Controller.states k) (g.row.C.Controller.inputs k) (g.row.C.Controller.partition k) (g.row.C.Controller.feedback k) in
+    let m = meaning (g.C.Controller.states k) (g.C.Controller.inputs k) (g.C.Controller.partition k) (g.C.Controller.feedback k) in
     let v = values_of c.args.case.now in
     let line = c.args.line in
     let bytes = c.args.bytes.now in

@@ -15,7 +15,7 @@ loop-rest-init g c = (omega arith, ([], c.none-named.ensures, refl))
 pub returns-in_default : goal.returns-in_default
 returns-in_default g c =
     let k = c.args.controller.now in
-    let m = meaning (g.row.C.Controller.states k) (g.row.C.Controller.inputs k) (g.row.C.Controller.partition k) (g.row.C.Controller.feedback k) in
+    let m = meaning (g.C.Controller.states k) (g.C.Controller.inputs k) (g.C.Controller.partition k) (g.C.Controller.feedback k) in
     let v = values_of c.args.case.now in
     let inv = c.loop-rest.invariant.1 in
     sym (unfinished v m inv.0 c.loop-rest.line c.loop-rest.rest.now (sym c.is_empty.ensures ∙ c.loop-rest-test.true) c.in_default.ensures) ∙ inv.2
@@ -23,7 +23,7 @@ returns-in_default g c =
 pub returns-in_err-check_line : goal.returns-in_err-check_line
 returns-in_err-check_line g c =
     let k = c.args.controller.now in
-    let m = meaning (g.row.C.Controller.states k) (g.row.C.Controller.inputs k) (g.row.C.Controller.partition k) (g.row.C.Controller.feedback k) in
+    let m = meaning (g.C.Controller.states k) (g.C.Controller.inputs k) (g.C.Controller.partition k) (g.C.Controller.feedback k) in
     let v = values_of c.args.case.now in
     let inv = c.loop-rest.invariant.1 in
     let e = c.in_err-check_line.field-0.0 in
@@ -42,7 +42,7 @@ loop-rest-smaller g c = omega (arith, rest_shorter c.loop-rest.rest.now c.in-Som
 pub loop-rest-preserved : goal.loop-rest-preserved
 loop-rest-preserved g c =
     let k = c.args.controller.now in
-    let m = meaning (g.row.C.Controller.states k) (g.row.C.Controller.inputs k) (g.row.C.Controller.partition k) (g.row.C.Controller.feedback k) in
+    let m = meaning (g.C.Controller.states k) (g.C.Controller.inputs k) (g.C.Controller.partition k) (g.C.Controller.feedback k) in
     let v = values_of c.args.case.now in
     let inv = c.loop-rest.invariant.1 in
     let told = c.in_ok-check_line.ensures inv.0 inv.1 in
@@ -58,7 +58,7 @@ loop-rest-preserved g c =
 pub returns : goal.returns
 returns g c =
     let k = c.args.controller.now in
-    let m = meaning (g.row.C.Controller.states k) (g.row.C.Controller.inputs k) (g.row.C.Controller.partition k) (g.row.C.Controller.feedback k) in
+    let m = meaning (g.C.Controller.states k) (g.C.Controller.inputs k) (g.C.Controller.partition k) (g.C.Controller.feedback k) in
     let v = values_of c.args.case.now in
     let inv = c.loop-rest.invariant.1 in
     let ended = nothing_left c.loop-rest.rest.now (sym c.is_empty.ensures ∙ c.loop-rest-test.false) in

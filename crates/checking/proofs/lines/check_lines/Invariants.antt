@@ -7,7 +7,7 @@ use Rattle.checking.proofs.lines.check_lines.Given as goal
 
 abbrev pub invariant-loop-rest : goal.invariant-loop-rest
 invariant-loop-rest g l =
-    let m = meaning (g.row.C.Controller.states l.controller) (g.row.C.Controller.inputs l.controller) (g.row.C.Controller.partition l.controller) (g.row.C.Controller.feedback l.controller) in
+    let m = meaning (g.C.Controller.states l.controller) (g.C.Controller.inputs l.controller) (g.C.Controller.partition l.controller) (g.C.Controller.feedback l.controller) in
     let k = values_of l.case in
     (l.line + length l.rest ≤ l.initial.line + length l.initial.rest)
     × ((ls : List ProofLine) × Marks l.named.flags ls × (text_check k m ls l.line l.rest ≡ text_check k m [] l.initial.line l.initial.rest))

@@ -21,7 +21,7 @@ overflow_cast-pair-in-Err g c =
 pub returns-in-Ok : goal.returns-in-Ok
 returns-in-Ok g c =
     let k = c.args.controller.now in
-    let m = meaning (g.row.C.Controller.states k) (g.row.C.Controller.inputs k) (g.row.C.Controller.partition k) (g.row.C.Controller.feedback k) in
+    let m = meaning (g.C.Controller.states k) (g.C.Controller.inputs k) (g.C.Controller.partition k) (g.C.Controller.feedback k) in
     let v = values_of c.args.case.now in
     let f : SFits w64 (get_or c.args.numbers.now 0 (pos 0)) = search rules in
     equations_answered v m c.args.region c.args.face c.args.line c.args.numbers.now _ _ (to_z-of_z w64 (get_or c.args.numbers.now 0 (pos 0)) f)
@@ -31,7 +31,7 @@ returns-in-Ok g c =
 pub returns-in-Err : goal.returns-in-Err
 returns-in-Err g c =
     let k = c.args.controller.now in
-    let m = meaning (g.row.C.Controller.states k) (g.row.C.Controller.inputs k) (g.row.C.Controller.partition k) (g.row.C.Controller.feedback k) in
+    let m = meaning (g.C.Controller.states k) (g.C.Controller.inputs k) (g.C.Controller.partition k) (g.C.Controller.feedback k) in
     let v = values_of c.args.case.now in
     let f : SFits w64 (get_or c.args.numbers.now 0 (pos 0)) = search rules in
     equations_answered v m c.args.region c.args.face c.args.line c.args.numbers.now _ _ (to_z-of_z w64 (get_or c.args.numbers.now 0 (pos 0)) f)

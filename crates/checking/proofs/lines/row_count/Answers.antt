@@ -11,6 +11,6 @@ use Rattle.checking.proofs.lines.row_count.Goals as goal
 pub unwrap-requires : goal.unwrap-requires
 unwrap-requires g c =
     let k = c.args.controller.now in
-    let m = meaning (g.row.C.Controller.states k) (g.row.C.Controller.inputs k) (g.row.C.Controller.partition k) (g.row.C.Controller.feedback k) in
+    let m = meaning (g.C.Controller.states k) (g.C.Controller.inputs k) (g.C.Controller.partition k) (g.C.Controller.feedback k) in
     let there = present_from m.regions c.args.region c.requires.region.0 c.requires.region.1 in
     ap is_ok (c.system_size.ensures.answer ∙ cond-true (fits (values_of c.args.case.now) m) _ _ (sizes_agree c.args.case.now m c.requires.states c.requires.inputs) ∙ cond-true (present m.regions c.args.region) _ _ there)

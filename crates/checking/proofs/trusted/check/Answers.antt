@@ -17,7 +17,7 @@ use Rattle.checking.proofs.trusted.check.Goals.{then-states-case-via-then-states
 pub returns-then-states-case : goal.returns-then-states-case
 returns-then-states-case g c =
     let k = c.args.controller.now in
-    let m = meaning (g.row.C.Controller.states k) (g.row.C.Controller.inputs k) (g.row.C.Controller.partition k) (g.row.C.Controller.feedback k) in
+    let m = meaning (g.C.Controller.states k) (g.C.Controller.inputs k) (g.C.Controller.partition k) (g.C.Controller.feedback k) in
     let v = c.args.case.now in
     record {
       value = sym (cond-false (fits (values_of v) m) (text_check (values_of v) m _ v.line v.proofs.now) (Err Sizes)
@@ -34,7 +34,7 @@ returns-then-states-case g c =
 pub returns-in_err-check_lines : goal.returns-in_err-check_lines
 returns-in_err-check_lines g c =
     let k = c.args.controller.now in
-    let m = meaning (g.row.C.Controller.states k) (g.row.C.Controller.inputs k) (g.row.C.Controller.partition k) (g.row.C.Controller.feedback k) in
+    let m = meaning (g.C.Controller.states k) (g.C.Controller.inputs k) (g.C.Controller.partition k) (g.C.Controller.feedback k) in
     let v = c.args.case.now in
     let e = sym c.sizes-states.ensures.0 ∙ c.if-states-case.false in
     let f = sym c.sizes-states.ensures.1 ∙ c.if-inputs-case.false in
@@ -49,7 +49,7 @@ returns-in_err-check_lines g c =
 pub returns : goal.returns
 returns g c =
     let k = c.args.controller.now in
-    let m = meaning (g.row.C.Controller.states k) (g.row.C.Controller.inputs k) (g.row.C.Controller.partition k) (g.row.C.Controller.feedback k) in
+    let m = meaning (g.C.Controller.states k) (g.C.Controller.inputs k) (g.C.Controller.partition k) (g.C.Controller.feedback k) in
     let v = c.args.case.now in
     let e = sym c.sizes-states.ensures.0 ∙ c.if-states-case.false in
     let f = sym c.sizes-states.ensures.1 ∙ c.if-inputs-case.false in

@@ -6,7 +6,7 @@ use Rattle.control.proofs.covered.covered_command.Goals as goal
 pub returns : goal.returns
 returns g c =
     let k = c.args.c.now in
-    let m = meaning (g.row.C.Controller.states k) (g.row.C.Controller.inputs k) (g.row.C.Controller.partition k) (g.row.C.Controller.feedback k) in
+    let m = meaning (g.C.Controller.states k) (g.C.Controller.inputs k) (g.C.Controller.partition k) (g.C.Controller.feedback k) in
     record {
       answer = c.command.ensures.answer;
       fills = c.command.ensures.fills;

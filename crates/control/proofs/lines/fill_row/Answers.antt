@@ -6,14 +6,14 @@ use Rattle.arith.specs.Bounds.{Within}
 use Rattle.arith.proofs.Bounds.{sign_within, sfits_within, product_read}
 use Rattle.control.specs.Limits.{coefficient_limit}
 use Rattle.control.specs.Lines.{spread}
-use Rattle.control.proofs.Spread.{spread_is}
+use Rattle.control.specs.Spread.{spread_is}
 use Rattle.control.proofs.lines.fill_row.Goals as goal
 
-product_small : (c : goal.After-struct-told·1) → SFits w64 (c.args.line.sign *ℤ get_or c.args.gains.now c.loop-i.i (pos 0))
+product_small : (c : goal.After-struct_told-1) → SFits w64 (c.args.line.sign *ℤ get_or c.args.gains.now c.loop-i.i (pos 0))
 product_small c =
     sfits_within coefficient_limit _ (lit< tt) (sign_within coefficient_limit _ _ c.requires.sign (All-get_or (Within coefficient_limit) _ _ (pos 0) c.loop-i-test.true c.requires.small))
 
-product_is : (c : goal.After-struct-told·1) → to_z w64 (of_z w64 c.args.line.sign) *ℤ to_z w64 (of_z w64 (get_or c.args.gains.now c.loop-i.i (pos 0))) ≡ c.args.line.sign *ℤ get_or c.args.gains.now c.loop-i.i (pos 0)
+product_is : (c : goal.After-struct_told-1) → to_z w64 (of_z w64 c.args.line.sign) *ℤ to_z w64 (of_z w64 (get_or c.args.gains.now c.loop-i.i (pos 0))) ≡ c.args.line.sign *ℤ get_or c.args.gains.now c.loop-i.i (pos 0)
 product_is c =
     let f : SFits w64 c.args.line.sign = search rules in
     let h : SFits w64 (get_or c.args.gains.now c.loop-i.i (pos 0)) = search rules in

@@ -11,7 +11,7 @@ use Rattle.system.proofs.kinds.region_row.Goals as goal
 pub overflow_add-j : goal.overflow_add-j
 overflow_add-j g c =
     let k = c.args.controller.now in
-    let l = (region_limits (meaning (g.row.C.Controller.states k) (g.row.C.Controller.inputs k) (g.row.C.Controller.partition k) (g.row.C.Controller.feedback k)) (g.met.C.Controller.limits k) c.args.region c.requires.region).few in
+    let l = (region_limits (meaning (g.C.Controller.states k) (g.C.Controller.inputs k) (g.C.Controller.partition k) (g.C.Controller.feedback k)) (g.met.C.Controller.limits k) c.args.region c.requires.region).few in
     let h = c.requires.place in
     search rules
 
@@ -25,7 +25,7 @@ pub returns : goal.returns
 returns g c =
     let v = c.args.case.now in
     let k = c.args.controller.now in
-    let m = meaning (g.row.C.Controller.states k) (g.row.C.Controller.inputs k) (g.row.C.Controller.partition k) (g.row.C.Controller.feedback k) in
+    let m = meaning (g.C.Controller.states k) (g.C.Controller.inputs k) (g.C.Controller.partition k) (g.C.Controller.feedback k) in
     let f : SFits w64 c.unwrap.result = search rules in
     same_row _ _ _ _ refl (to_z-of_z w64 c.unwrap.result f)
     ∙ region_filled v m c.args.region c.args.j c.clear.new.coefficients c.row.new.coefficients c.unwrap.result c.requires.states c.requires.inputs c.requires.region c.requires.place

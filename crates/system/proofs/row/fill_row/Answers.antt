@@ -11,19 +11,19 @@ use Rattle.system.proofs.row.fill_row.Goals as goal
 pub overflow_sub-nexts : goal.overflow_sub-nexts
 overflow_sub-nexts g c =
     let k = c.args.controller.now in
-    let r = region_of (meaning (g.row.C.Controller.states k) (g.row.C.Controller.inputs k) (g.row.C.Controller.partition k) (g.row.C.Controller.feedback k)) c.args.region in
+    let r = region_of (meaning (g.C.Controller.states k) (g.C.Controller.inputs k) (g.C.Controller.partition k) (g.C.Controller.feedback k)) c.args.region in
     omega (arith, c.requires.rows, case_rows c.args.case.now r)
 
 pub overflow_sub-pushes : goal.overflow_sub-pushes
 overflow_sub-pushes g c =
     let k = c.args.controller.now in
-    let r = region_of (meaning (g.row.C.Controller.states k) (g.row.C.Controller.inputs k) (g.row.C.Controller.partition k) (g.row.C.Controller.feedback k)) c.args.region in
+    let r = region_of (meaning (g.C.Controller.states k) (g.C.Controller.inputs k) (g.C.Controller.partition k) (g.C.Controller.feedback k)) c.args.region in
     omega (arith, c.requires.rows, case_rows c.args.case.now r)
 
 pub region_row-requires : goal.region_row-requires
 region_row-requires g c =
     let k = c.args.controller.now in
-    let r = region_of (meaning (g.row.C.Controller.states k) (g.row.C.Controller.inputs k) (g.row.C.Controller.partition k) (g.row.C.Controller.feedback k)) c.args.region in
+    let r = region_of (meaning (g.C.Controller.states k) (g.C.Controller.inputs k) (g.C.Controller.partition k) (g.C.Controller.feedback k)) c.args.region in
     record {
       states = c.requires.states;
       inputs = c.requires.inputs;
@@ -45,7 +45,7 @@ returns-then-j-faces g c =
 pub returns-then-j-pushes : goal.returns-then-j-pushes
 returns-then-j-pushes g c =
     let k = c.args.controller.now in
-    let r = region_of (meaning (g.row.C.Controller.states k) (g.row.C.Controller.inputs k) (g.row.C.Controller.partition k) (g.row.C.Controller.feedback k)) c.args.region in
+    let r = region_of (meaning (g.C.Controller.states k) (g.C.Controller.inputs k) (g.C.Controller.partition k) (g.C.Controller.feedback k)) c.args.region in
     let f : SFits w64 c.region_row.result = search rules in
     same_row _ _ _ _ refl (to_z-of_z w64 _ f) ∙ c.region_row.ensures
     ∙ region_at c.args.case.now r c.args.j (omega arith) (omega (arith, c.requires.rows, case_rows c.args.case.now r))

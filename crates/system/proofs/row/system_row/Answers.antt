@@ -7,7 +7,7 @@ use Rattle.system.proofs.row.system_row.Goals as goal
 pub fill_row-requires : goal.fill_row-requires
 fill_row-requires g c =
     let k = c.args.controller.now in
-    let m = meaning (g.row.C.Controller.states k) (g.row.C.Controller.inputs k) (g.row.C.Controller.partition k) (g.row.C.Controller.feedback k) in
+    let m = meaning (g.C.Controller.states k) (g.C.Controller.inputs k) (g.C.Controller.partition k) (g.C.Controller.feedback k) in
     let t = sized c.args.case.now m c.args.region c.in_ok-size.size c.in_ok-size.ensures.answer in
     record {
       states = t.states;

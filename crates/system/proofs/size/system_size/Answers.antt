@@ -13,7 +13,7 @@ use Rattle.system.proofs.size.system_size.Goals.{then-states-case-via-then-state
 pub returns-then-states-case : goal.returns-then-states-case
 returns-then-states-case g c =
     let k = c.args.controller.now in
-    let m = meaning (g.row.C.Controller.states k) (g.row.C.Controller.inputs k) (g.row.C.Controller.partition k) (g.row.C.Controller.feedback k) in
+    let m = meaning (g.C.Controller.states k) (g.C.Controller.inputs k) (g.C.Controller.partition k) (g.C.Controller.feedback k) in
     record {
       answer = size_refused (values_of c.args.case.now) m c.args.region
           (sizes_differ c.args.case.now m
@@ -28,7 +28,7 @@ returns-then-states-case g c =
 few : (g : given.Over) (c : goal.In-Ok g) → c.in-Ok.rows ≤ most_rows
 few g c =
     let k = c.args.controller.now in
-    few_rows (meaning (g.row.C.Controller.states k) (g.row.C.Controller.inputs k) (g.row.C.Controller.partition k) (g.row.C.Controller.feedback k)) (g.met.C.Controller.limits k)
+    few_rows (meaning (g.C.Controller.states k) (g.C.Controller.inputs k) (g.C.Controller.partition k) (g.C.Controller.feedback k)) (g.met.C.Controller.limits k)
     c.args.region c.in-Ok.rows c.in-Ok.ensures
 
 pub overflow_add-result-in-Ok : goal.overflow_add-result-in-Ok
@@ -43,7 +43,7 @@ overflow_add-result-in-Ok-3 g c = let h = few g c in search rules
 pub returns-in-Ok : goal.returns-in-Ok
 returns-in-Ok g c =
     let k = c.args.controller.now in
-    let m = meaning (g.row.C.Controller.states k) (g.row.C.Controller.inputs k) (g.row.C.Controller.partition k) (g.row.C.Controller.feedback k) in
+    let m = meaning (g.C.Controller.states k) (g.C.Controller.inputs k) (g.C.Controller.partition k) (g.C.Controller.feedback k) in
     let v = c.args.case.now in
     let e = sym c.sizes-states.ensures.0 ∙ c.if-states-case.false in
     let f = sym c.sizes-states.ensures.1 ∙ c.if-inputs-case.false in
@@ -57,7 +57,7 @@ returns-in-Ok g c =
 pub returns-in-Err : goal.returns-in-Err
 returns-in-Err g c =
     let k = c.args.controller.now in
-    let m = meaning (g.row.C.Controller.states k) (g.row.C.Controller.inputs k) (g.row.C.Controller.partition k) (g.row.C.Controller.feedback k) in
+    let m = meaning (g.C.Controller.states k) (g.C.Controller.inputs k) (g.C.Controller.partition k) (g.C.Controller.feedback k) in
     let v = c.args.case.now in
     let e = sym c.sizes-states.ensures.0 ∙ c.if-states-case.false in
     let f = sym c.sizes-states.ensures.1 ∙ c.if-inputs-case.false in

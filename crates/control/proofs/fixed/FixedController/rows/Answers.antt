@@ -1,7 +1,9 @@
 -- The proof of `Fixed::rows`: what the search leaves.
 use Rattle.std.proofs.Common.{take, Ok, sym, ap, ◌∙◌}
 use Rattle.control.specs.Answers.{rows_answer}
-use Rattle.control.proofs.FixedLaws.{ok_of, fixed_rows_long, fixed_meaning}
+use Rattle.control.proofs.FixedKnown.{ok_of}
+use Rattle.control.specs.FixedLaws.{fixed_meaning}
+use Rattle.control.proofs.FixedRows.{fixed_rows_long}
 use Rattle.control.proofs.fixed.FixedController.rows.Goals as goal
 
 pub returns : goal.returns

@@ -8,13 +8,13 @@ pub invariant_of-result : goal.invariant_of-result
 invariant_of-result c =
     let is = c.args.inputs.now in
     let e : length is ≡ 1 = search rules in
-    ((omega arith, omega arith, omega arith, omega arith), (refl, (one_ok is e c.if-not-all_ok.ensures, tt)))
+    record { sizes = (omega arith, omega arith, omega arith, omega arith); two = refl; limits = one_ok is e c.if-not-all_ok.ensures }
 
 pub invariant_of-result-in-len2 : goal.invariant_of-result-in-len2
 invariant_of-result-in-len2 c =
     let is = c.args.inputs.now in
     let e : length is ≡ 2 = search rules in
-    ((omega arith, omega arith, omega arith, omega arith), (refl, (ap inputs_ok (two_inputs is e) ∙ sym c.if-not-all_ok.ensures, tt)))
+    record { sizes = (omega arith, omega arith, omega arith, omega arith); two = refl; limits = ap inputs_ok (two_inputs is e) ∙ sym c.if-not-all_ok.ensures }
 
 pub returns-in-len1 : goal.returns-in-len1
 returns-in-len1 c =

@@ -2,7 +2,7 @@
 use Rattle.std.proofs.Common.{◌≡◌, ◌+◌, ◌*◌, ◌≤◌, length, take, ◌∙◌, arith, rules}
 use Rattle.std.proofs.lemmas.List.{length-map, length-take-le}
 use Rattle.control.specs.Saturated.{value, digit_of, radix, digits_at, region_at}
-use Rattle.control.proofs.SaturatedLaws.{ok_of}
+use Rattle.control.proofs.SaturatedKnown.{ok_of}
 use Rattle.control.proofs.SaturatedRows.{index_one, index_two, region_found, region_holds_at}
 use Rattle.control.proofs.saturated.Saturated.region.Goals as goal
 

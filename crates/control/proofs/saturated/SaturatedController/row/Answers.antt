@@ -8,12 +8,12 @@ use Rattle.control.specs.Limits.{coefficient_limit}
 use Rattle.control.specs.Lines.{row_from}
 use Rattle.control.specs.Saturated.{region_rows, saturated_partition}
 use Rattle.control.proofs.Outcomes.{row_missing, row_short, row_found}
-use Rattle.control.proofs.Spread.{filled}
-use Rattle.control.proofs.Inputs.{no_input, ok_input, input_ok_at, gains_long, gains_within, front_slice}
-use Rattle.control.proofs.SaturatedLaws.{saturated_meaning}
+use Rattle.control.specs.Spread.{filled}
+use Rattle.control.specs.Inputs.{no_input, ok_input, input_ok_at, gains_long, gains_within, front_slice}
+use Rattle.control.specs.SaturatedLaws.{saturated_meaning}
 use Rattle.control.proofs.SaturatedRows.{gains_held, such_row, no_such_row, that_row}
 use Rattle.control.proofs.saturated.SaturatedController.row.Goals as goal
-use Rattle.control.proofs.saturated.SaturatedController.row.Goals.{then-row-lt1-via-then-row-lt1, then-row-lt1-via-else-row-lt1+then-row-row-count}
+use Rattle.control.proofs.saturated.SaturatedController.row.Goals.{then-row-lt1-via-then-row-lt1, then-row-lt1-via-else-row-lt1+then-row-row_count}
 
 pub returns-then-row-lt1 : goal.returns-then-row-lt1
 returns-then-row-lt1 c =
@@ -25,7 +25,7 @@ returns-then-row-lt1 c =
     (no_such_row s.states s.count us k c.args.row c.if-region-lt1.false high
     (elim c.then-row-lt1.branch [
       | then-row-lt1-via-then-row-lt1 w ↦ inl w.if-row-lt1.true
-      | then-row-lt1-via-else-row-lt1+then-row-row-count w ↦ inr (omega (arith, w.row_count.ensures, w.if-row-row_count.true))
+      | then-row-lt1-via-else-row-lt1+then-row-row_count w ↦ inr (omega (arith, w.row_count.ensures, w.if-row-row_count.true))
     ])) in
     record { answer = p.0; fills = p.1 }
 

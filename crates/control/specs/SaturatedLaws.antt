@@ -1,4 +1,4 @@
--- The saturated law keeps the limits and covers.
+-- The saturated law keeps the limits and covers: proofs of the laws of a controller, which the impl cites. Nothing here needs to be believed.
 use Rattle.std.proofs.Common.{◌≡◌, ℕ, suc, ◌+◌, ◌*◌, ◌/◌, ◌%◌, ◌^◌, ◌<◌, ◌≤◌, true, false, cond, List, [], ◌∷◌, ◌++◌, map, length, get_or, take, ℤ, pos, negsuc, ◌+ℤ◌, ◌-ℤ◌, ◌*ℤ◌, neg_ℤ, ◌≤ℤ◌, ◌<ℤ◌, sym, refl, ap, ◌∙◌, subst, pow-suc, arith}
 use lib.IntN.{zero-*ℤ}
 use lib.Signed.{le_z}
@@ -19,14 +19,13 @@ use Rattle.control.specs.declared.input.Input.{Input}
 use Rattle.control.specs.declared.input.Digit.{Digit}
 use Rattle.control.specs.declared.input.Digit.TheVariants.{Low, Middle, High}
 use Rattle.control.specs.declared.lines.Line.{Line}
-use Rattle.control.specs.declared.saturated.Saturated.{Saturated}
 use Rattle.control.specs.Meaning.{Meaning, meaning}
 use Rattle.control.specs.Limits.{most_states, most_inputs, most_regions, coefficient_limit, right_limit, command_limit, setting_limit, State, Limits, RowLimits, RegionLimits}
 use Rattle.control.specs.Cover.{Holds, Cover}
 use Rattle.control.specs.Lines.{line, spread, row_from, stacked}
-use Rattle.control.specs.Saturated.{offset_limit, value, quotient, part, low_edge, high_edge, digit_of, lines, radix, number, numbered, region_lines, gains_at, region_rows, index_of, digits_at, saturated_command, saturated_partition}
-use Rattle.control.proofs.Inputs.{InputOk, ok_inputs, gains_long, gains_within, rights}
-use Rattle.control.proofs.Spread.{dot_spread, row_limits}
+use Rattle.control.specs.Saturated.{inputs_ok, offset_limit, value, quotient, part, low_edge, high_edge, digit_of, lines, radix, number, numbered, region_lines, gains_at, region_rows, index_of, digits_at, saturated_command, saturated_partition}
+use Rattle.control.specs.Inputs.{InputOk, ok_inputs, gains_long, gains_within, rights}
+use Rattle.control.specs.Spread.{dot_spread, row_limits}
 
 abbrev pub saturated_meaning : ℕ → ℕ → List Input → Meaning
 saturated_meaning n m is = meaning n m (saturated_partition n is) (saturated_command n is)
@@ -40,16 +39,17 @@ pub record SaturatedOk (n m : ℕ) (is : List Input) : Type 0 where
   pub long : length is ≡ m
   pub each : All InputOk is
 
-pub ok_of : (s : Saturated) → SaturatedOk s.states s.count (take s.count s.inputs)
-ok_of s =
-    let le : s.count ≤ length s.inputs = omega arith in
+-- what the limits of its fields give
+pub ok_from : (n m : ℕ) (is : List Input) → (1 ≤ n) × (n ≤ most_states) × (1 ≤ m) × (m ≤ most_inputs) → length is ≡ 2 → inputs_ok is ≡ true → SaturatedOk n m (take m is)
+ok_from n m is sizes two limits =
+    let le : m ≤ length is = omega arith in
     record {
-      n_low = s.sizes.0;
-      n_high = s.sizes.1;
-      m_low = s.sizes.2;
-      m_high = s.sizes.3;
-      long = length-take-le s.count s.inputs le;
-      each = All-take InputOk s.count s.inputs (ok_inputs s.inputs s.limits);
+      n_low = sizes.0;
+      n_high = sizes.1;
+      m_low = sizes.2;
+      m_high = sizes.3;
+      long = length-take-le m is le;
+      each = All-take InputOk m is (ok_inputs is limits);
     }
 
 -- the clipped quotient at each digit
