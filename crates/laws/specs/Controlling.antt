@@ -2,9 +2,9 @@
 use Rattle.control.specs.Cover.{Cover}
 use Rattle.control.specs.Limits.{Limits}
 use Rattle.control.specs.FixedLaws.{fixed_limits, fixed_cover}
-use Rattle.control.proofs.FixedLaws as fixed
+use Rattle.control.proofs.FixedKnown as fixed
 use Rattle.control.specs.SaturatedLaws.{saturated_limits, saturated_cover}
-use Rattle.control.specs.SaturatedLaws as saturated
+use Rattle.control.proofs.SaturatedKnown as saturated
 use Rattle.laws.specs.Controllers.{controlled}
 use Rattle.laws.specs.declared.law.Law.{Law}
 use Rattle.laws.specs.declared.law.Law.TheVariants.{Saturated, Fixed}

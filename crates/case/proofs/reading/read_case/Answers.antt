@@ -18,19 +18,15 @@ invariant_of-place c =
     let d = divisor_back k h in
     let a = c.equations.ensures ∙ equations_stored r.t r.kept k r.sizes rows r.held in
     let b = c.bounds.ensures ∙ bounds_stored r.t r.kept k r.sizes rows r.held in
-    let x = c.extra_faces.ensures ∙ extras_stored r.t r.kept k r.sizes rows r.held in (
-      (h.states_low, h.states_high, h.inputs_low, h.inputs_high),
-      (
-        (h.pushes_high, h.extras_high),
-        (
-          lengths_are r.t r.kept k r.sizes _ _ _ _ d a b x,
-          (
-            rw d (h.divisor_low, h.divisor_high),
-            (limits_are r.t r.kept k r.sizes _ _ _ _ d a b x, (wide_is r.t r.kept k r.sizes _ _ _ _ d a b x, tt)),
-          ),
-        ),
-      ),
-    )
+    let x = c.extra_faces.ensures ∙ extras_stored r.t r.kept k r.sizes rows r.held in
+    record {
+      sizes = (h.states_low, h.states_high, h.inputs_low, h.inputs_high);
+      counts = (h.pushes_high, h.extras_high);
+      lengths = lengths_are r.t r.kept k r.sizes _ _ _ _ d a b x;
+      divides = rw d (h.divisor_low, h.divisor_high);
+      limits = limits_are r.t r.kept k r.sizes _ _ _ _ d a b x;
+      wide = wide_is r.t r.kept k r.sizes _ _ _ _ d a b x;
+    }
 
 pub returns-in_err-sizes : goal.returns-in_err-sizes
 returns-in_err-sizes c =

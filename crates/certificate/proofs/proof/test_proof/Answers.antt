@@ -10,7 +10,7 @@ use Rattle.certificate.proofs.Outcomes.{answer_refused, face_there, face_missing
 use Rattle.certificate.proofs.Tested.{proof_form}
 use Rattle.certificate.proofs.proof.test_proof.Given as given
 use Rattle.certificate.proofs.proof.test_proof.Goals as goal
-use Rattle.certificate.proofs.proof.test_proof.Goals.{then-face-lt1-via-then-face-lt1, then-face-lt1-via-else-face-lt1+then-face-case, then-not-in-limit-via-then-not-in-limit, then-not-in-limit-via-else-not-in-limit+then-not-all-in-limit}
+use Rattle.certificate.proofs.proof.test_proof.Goals.{then-face-lt1-via-then-face-lt1, then-face-lt1-via-else-face-lt1+then-face-case, then-not-in_limit-via-then-not-in_limit, then-not-in_limit-via-else-not-in_limit+then-not-all_in_limit}
 
 -- what the controller means
 abbrev meant : (g : given.Over) → g.row.C.Denot → Meaning
@@ -48,8 +48,8 @@ returns-then-not-in_limit g c =
     let s = sized v m c.args.region c.in_ok-size.size c.in_ok-size.ensures.answer in
     let there = face_there v c.args.face (omega arith) (omega arith) in
     let out : (in_limit c.args.scale && all_in_limit c.args.multipliers.now) ≡ false = elim c.then-not-in_limit.branch [
-      | then-not-in-limit-via-then-not-in-limit w ↦ scale_out c.args.scale c.ranges.scale c.args.multipliers.now w.if-not-in_limit.ensures.value
-      | then-not-in-limit-via-else-not-in-limit+then-not-all-in-limit w ↦ one_out c.args.scale c.ranges.scale c.args.multipliers.now w.if-not-all_in_limit.ensures.value
+      | then-not-in_limit-via-then-not-in_limit w ↦ scale_out c.args.scale c.ranges.scale c.args.multipliers.now w.if-not-in_limit.ensures.value
+      | then-not-in_limit-via-else-not-in_limit+then-not-all_in_limit w ↦ one_out c.args.scale c.ranges.scale c.args.multipliers.now w.if-not-all_in_limit.ensures.value
     ] in
     record { value = answer_range v m c.args.region c.args.face c.args.scale c.args.multipliers.now s there c.if-multipliers-size.false out; form = proof_form (values_of v) m c.args.region c.args.face c.args.scale c.args.multipliers.now }
 

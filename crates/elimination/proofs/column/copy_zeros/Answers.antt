@@ -16,10 +16,10 @@ pub loop-row-preserved : goal.loop-row-preserved
 loop-row-preserved c =
     let f : SFits w64 (coefficient (get_or c.args.rows.now c.loop-row.row-index no_row) c.args.column) = search rules in
     elim c.if-row-column-eq0.branch [
-      | then-row-column-eq0 w ↦ rw (w.out-is, w.n_is)
+      | then-row-column-eq0 w ↦ rw (w.out-is, w.n-is)
           (copying_yes c.args.column c.args.rows.now c.loop-row.out c.loop-row.row-index c.loop-row.n c.loop-row-test.true (omega (arith, c.requires.room, c.loop-row.auto.out))
           (zero_yes (coefficient (get_or c.args.rows.now c.loop-row.row-index no_row) c.args.column) f w.if-row-column-eq0.true) c.loop-row.invariant)
-      | else-row-column-eq0 w ↦ rw (w.out-is, w.n_is)
+      | else-row-column-eq0 w ↦ rw (w.out-is, w.n-is)
           (copying_no c.args.column c.args.rows.now c.loop-row.out c.loop-row.row-index c.loop-row.n c.loop-row-test.true
           (zero_no (coefficient (get_or c.args.rows.now c.loop-row.row-index no_row) c.args.column) w.if-row-column-eq0.false) c.loop-row.invariant)
     ]

@@ -11,13 +11,13 @@ pub loop-row-preserved : goal.loop-row-preserved
 loop-row-preserved c =
     let f : SFits w64 (coefficient (get_or c.args.rows.now c.loop-row.row-index no_row) c.args.column) = search rules in
     elim c.if-value-eq0.branch [
-      | then-value-eq0 w ↦ rw (w.zero-is, w.positive_is, w.negative_is)
+      | then-value-eq0 w ↦ rw (w.zero-is, w.positive-is, w.negative-is)
           (counted_zero c.args.column c.args.rows.now c.loop-row.row-index c.loop-row.zero c.loop-row.positive c.loop-row.negative c.loop-row-test.true
           (zero_yes (coefficient (get_or c.args.rows.now c.loop-row.row-index no_row) c.args.column) f w.if-value-eq0.true) c.loop-row.invariant)
-      | else-value-eq0+then-value-gt0 w ↦ rw (w.zero-is, w.positive_is, w.negative_is)
+      | else-value-eq0+then-value-gt0 w ↦ rw (w.zero-is, w.positive-is, w.negative-is)
           (counted_positive c.args.column c.args.rows.now c.loop-row.row-index c.loop-row.zero c.loop-row.positive c.loop-row.negative c.loop-row-test.true
           (positive_yes (coefficient (get_or c.args.rows.now c.loop-row.row-index no_row) c.args.column) f w.if-value-gt0.true) c.loop-row.invariant)
-      | else-value-eq0+else-value-gt0 w ↦ rw (w.zero-is, w.positive_is, w.negative_is)
+      | else-value-eq0+else-value-gt0 w ↦ rw (w.zero-is, w.positive-is, w.negative-is)
           (counted_negative c.args.column c.args.rows.now c.loop-row.row-index c.loop-row.zero c.loop-row.positive c.loop-row.negative c.loop-row-test.true
           (zero_no (coefficient (get_or c.args.rows.now c.loop-row.row-index no_row) c.args.column) w.if-value-eq0.false)
           (positive_no (coefficient (get_or c.args.rows.now c.loop-row.row-index no_row) c.args.column) f w.if-value-gt0.false) c.loop-row.invariant)

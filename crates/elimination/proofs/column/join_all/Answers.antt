@@ -6,7 +6,7 @@ use Rattle.elimination.specs.Rows.{coefficient, Proper}
 use Rattle.elimination.proofs.Pairings.{pairing_yes, pairing_no, pairing_stop, pairing_end, pairing_room, grown}
 use Rattle.elimination.proofs.Turns.{no_row, positive_yes, positive_no, filled_stop}
 use Rattle.elimination.proofs.column.join_all.Goals as goal
-use Rattle.elimination.proofs.column.join_all.Goals.{then-p-column-gt0+in-ok-m, else-p-column-gt0}
+use Rattle.elimination.proofs.column.join_all.Goals.{then-p-column-gt0+in_ok-m, else-p-column-gt0}
 
 pub join_with-requires : goal.join_with-requires
 join_with-requires c =
@@ -34,11 +34,11 @@ pub loop-p-preserved : goal.loop-p-preserved
 loop-p-preserved c =
     let f : SFits w64 (coefficient (get_or c.args.rows.now c.loop-p.p-index no_row) c.args.column) = search rules in
     elim c.if-p-column-gt0.branch [
-      | then-p-column-gt0+in-ok-m w ↦ rw (w.out-is, w.m_is)
+      | then-p-column-gt0+in_ok-m w ↦ rw (w.out-is, w.m-is)
           (pairing_yes c.args.column c.args.rows.now c.args.out.now c.loop-p.out w.join_with.new.out c.args.n c.loop-p.p-index c.loop-p.m w.in_ok-m.m c.loop-p-test.true c.loop-p.auto.out
           (positive_yes (coefficient (get_or c.args.rows.now c.loop-p.p-index no_row) c.args.column) f w.if-p-column-gt0.true)
           (grown _ _ w.join_with.new.out w.join_with.result w.in_ok-m.m w.join_with.ensures.value w.join_with.ensures.rows w.in_ok-m.was) c.loop-p.invariant)
-      | else-p-column-gt0 w ↦ rw (w.out-is, w.m_is)
+      | else-p-column-gt0 w ↦ rw (w.out-is, w.m-is)
           (pairing_no c.args.column c.args.rows.now c.args.out.now c.loop-p.out c.args.n c.loop-p.p-index c.loop-p.m c.loop-p-test.true
           (positive_no (coefficient (get_or c.args.rows.now c.loop-p.p-index no_row) c.args.column) f w.if-p-column-gt0.false) c.loop-p.invariant)
     ]

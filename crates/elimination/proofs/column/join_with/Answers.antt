@@ -6,7 +6,7 @@ use Rattle.elimination.specs.Rows.{coefficient, Proper}
 use Rattle.elimination.proofs.Joins.{joining_yes, joining_no, joining_stop, joining_room, joining_end}
 use Rattle.elimination.proofs.Turns.{no_row, negative_yes, negative_no, filled_stop}
 use Rattle.elimination.proofs.column.join_with.Goals as goal
-use Rattle.elimination.proofs.column.join_with.Goals.{then-q-column-lt0+in-ok-out, else-q-column-lt0}
+use Rattle.elimination.proofs.column.join_with.Goals.{then-q-column-lt0+in_ok-out, else-q-column-lt0}
 
 pub combine-requires : goal.combine-requires
 combine-requires c =
@@ -38,10 +38,10 @@ pub loop-q-preserved : goal.loop-q-preserved
 loop-q-preserved c =
     let f : SFits w64 (coefficient (get_or c.args.rows.now c.loop-q.q-index no_row) c.args.column) = search rules in
     elim c.if-q-column-lt0.branch [
-      | then-q-column-lt0+in-ok-out w ↦ rw (w.out-is, w.m_is)
+      | then-q-column-lt0+in_ok-out w ↦ rw (w.out-is, w.m-is)
           (joining_yes c.args.column c.args.p.now c.args.rows.now c.args.out.now c.loop-q.out c.args.n c.loop-q.q-index c.loop-q.m w.in_ok-out.field-0 c.loop-q-test.true c.loop-q.auto.out
           (negative_yes (coefficient (get_or c.args.rows.now c.loop-q.q-index no_row) c.args.column) f w.if-q-column-lt0.true) (sym w.combine.ensures.value ∙ w.in_ok-out.was) c.loop-q.invariant)
-      | else-q-column-lt0 w ↦ rw (w.out-is, w.m_is)
+      | else-q-column-lt0 w ↦ rw (w.out-is, w.m-is)
           (joining_no c.args.column c.args.p.now c.args.rows.now c.args.out.now c.loop-q.out c.args.n c.loop-q.q-index c.loop-q.m c.loop-q-test.true
           (negative_no (coefficient (get_or c.args.rows.now c.loop-q.q-index no_row) c.args.column) f w.if-q-column-lt0.false) c.loop-q.invariant)
     ]

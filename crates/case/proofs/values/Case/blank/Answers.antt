@@ -5,4 +5,11 @@ use Rattle.case.proofs.values.Case.blank.Goals as goal
 
 pub invariant_of-result : goal.invariant_of-result
 invariant_of-result c =
-    ((omega arith, omega arith, omega arith, omega arith), ((omega arith, omega arith), ((refl, refl, refl), ((omega (arith, ints), omega (arith, ints)), ((refl, refl, refl), (refl, tt))))))
+    record {
+      sizes = (omega arith, omega arith, omega arith, omega arith);
+      counts = (omega arith, omega arith);
+      lengths = (refl, refl, refl);
+      divides = (omega (arith, ints), omega (arith, ints));
+      limits = (refl, refl, refl);
+      wide = refl;
+    }
