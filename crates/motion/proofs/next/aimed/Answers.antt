@@ -16,9 +16,9 @@ aim_of-requires c =
       states = omega (arith, k.sizes.1, c.requires.states);
       inputs = omega (arith, k.sizes.3, c.requires.inputs);
       pushes = omega (arith, k.counts.0, c.requires.pushes);
-      small-x = c.requires.small_x;
-      small-u = c.requires.small_u;
-      small-w = c.requires.small_w;
+      small_x = c.requires.small_x;
+      small_u = c.requires.small_u;
+      small_w = c.requires.small_w;
     }
 
 pub returns : goal.returns

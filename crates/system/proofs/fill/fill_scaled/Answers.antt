@@ -8,14 +8,14 @@ use Rattle.arith.proofs.Bounds.{sign_within, sfits_within, product_read}
 use Rattle.control.specs.Limits.{coefficient_limit}
 use Rattle.system.proofs.fill.fill_scaled.Goals as goal
 
-sign_read : (c : goal.After-coefficients·1) → to_z w64 (of_z w64 c.args.sign) ≡ c.args.sign
+sign_read : (c : goal.After-coefficients-1) → to_z w64 (of_z w64 c.args.sign) ≡ c.args.sign
 sign_read c = to_z-of_z w64 _ (sfits_within 1 _ (lit< tt) c.requires.sign)
 
-product_small : (c : goal.After-coefficients·1) → SFits w64 (c.args.sign *ℤ get_or c.args.values.now c.loop-i.i (pos 0))
+product_small : (c : goal.After-coefficients-1) → SFits w64 (c.args.sign *ℤ get_or c.args.values.now c.loop-i.i (pos 0))
 product_small c =
     sfits_within coefficient_limit _ (lit< tt) (sign_within coefficient_limit _ _ c.requires.sign (All-get_or (Within coefficient_limit) _ _ (pos 0) c.loop-i-test.true c.requires.small))
 
-product_is : (c : goal.After-coefficients·1) → to_z w64 (of_z w64 c.args.sign) *ℤ to_z w64 (of_z w64 (get_or c.args.values.now c.loop-i.i (pos 0))) ≡ c.args.sign *ℤ get_or c.args.values.now c.loop-i.i (pos 0)
+product_is : (c : goal.After-coefficients-1) → to_z w64 (of_z w64 c.args.sign) *ℤ to_z w64 (of_z w64 (get_or c.args.values.now c.loop-i.i (pos 0))) ≡ c.args.sign *ℤ get_or c.args.values.now c.loop-i.i (pos 0)
 product_is c =
     let w = All-get_or (Within coefficient_limit) c.args.values.now c.loop-i.i (pos 0) c.loop-i-test.true c.requires.small in
     product_read _ _ (sfits_within 1 _ (lit< tt) c.requires.sign) (sfits_within coefficient_limit _ (lit< tt) w)
