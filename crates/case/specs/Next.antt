@@ -1,9 +1,8 @@
 -- The next state on whole numbers: what a state, a command and pushes aim at, and which values are permitted.
-use Rattle.std.specs.Prelude.{◌≡◌, List, [], ◌∷◌, length, ℤ, ◌+ℤ◌, ◌-ℤ◌, ◌*ℤ◌, neg_ℤ, ◌≤ℤ◌}
+use Rattle.std.specs.Prelude.{List, [], ◌∷◌, ℤ, ◌+ℤ◌, ◌-ℤ◌, ◌*ℤ◌, neg_ℤ, ◌≤ℤ◌}
 use Rattle.std.specs.Int.{int_div_euclid}
-use Rattle.std.specs.List.{AllZip}
 use Rattle.arith.specs.Products.{dot}
-use Rattle.case.specs.Values.{CaseValues, state_count, push_count}
+use Rattle.case.specs.Values.{CaseValues}
 use Rattle.case.specs.declared.values.StateEquation.{StateEquation}
 use Rattle.case.specs.declared.values.PushBounds.{PushBounds}
 

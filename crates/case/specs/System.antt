@@ -1,5 +1,5 @@
 -- The system of a region: rows over the state x, the command u, the pushes w and the next state.
-use Rattle.std.specs.Prelude.{ℕ, suc, ◌+◌, List, [], ◌∷◌, ◌++◌, map, length, replicate, ℤ, pos, negsuc, ◌+ℤ◌, ◌-ℤ◌, ◌*ℤ◌, neg_ℤ}
+use Rattle.std.specs.Prelude.{ℕ, suc, ◌+◌, List, [], ◌∷◌, ◌++◌, map, replicate, ℤ, pos, negsuc, ◌+ℤ◌, ◌-ℤ◌, ◌*ℤ◌, neg_ℤ}
 use Rattle.control.specs.Meaning.{Row}
 use Rattle.case.specs.Faces.{unit}
 use Rattle.case.specs.Values.{CaseValues, state_count, push_count}

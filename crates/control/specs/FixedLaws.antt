@@ -1,24 +1,20 @@
 -- The fixed law keeps the limits and covers: proofs of the laws of a controller, which the impl cites. Nothing here needs to be believed.
-use Rattle.std.proofs.Common.{◌≡◌, ℕ, zero, suc, ◌+◌, ◌-◌, ◌*◌, ◌/◌, ◌%◌, ◌<◌, ◌≤◌, true, false, ◌&&◌, ◌⊎◌, List, [], ◌∷◌, ◌++◌, map, length, get_or, take, replicate, ℤ, pos, negsuc, neg_ℤ, sym, refl, ap, ◌∙◌, inl, inr, arith, w64, SFits, to_z, of_z}
-use borrow.Rule.Slice.PartMut.{mid_of}
+use Rattle.std.proofs.Common.{◌≡◌, ℕ, ◌+◌, ◌<◌, ◌≤◌, true, List, [], ◌∷◌, ◌++◌, map, length, get_or, take, replicate, ℤ, pos, negsuc, neg_ℤ, sym, refl, ◌∙◌, arith}
 use lib.IntN.{zero-*ℤ}
 use Rattle.std.specs.List.{AllByRecursion as All}
 use Rattle.std.proofs.ByRecursion.{All-append, All-take}
-use Rattle.std.proofs.lemmas.List.{length-replicate, length-take-le, get_or-take}
-use Rattle.std.proofs.lemmas.Int.{ints, to_z-of_z}
-use Rattle.std.proofs.lemmas.Bool.{and_left, and_right, and_from}
-use Rattle.std.proofs.lemmas.Bool.Decides.{nat_tests}
+use Rattle.std.proofs.lemmas.List.{length-replicate, length-take-le}
+use Rattle.std.proofs.lemmas.Int.{ints}
 use Rattle.arith.specs.Bounds.{Within, all_within}
 use Rattle.arith.specs.Products.{dot}
 use Rattle.arith.proofs.Lists.{at_one_two}
 use Rattle.arith.proofs.Bounds.{all_from_test, within_wider, zeros_within}
 use Rattle.control.specs.declared.lines.Line.{Line}
 use Rattle.control.specs.Meaning.{Meaning, meaning}
-use Rattle.control.specs.Limits.{sizes_ok, setting_limit, most_states, most_inputs, coefficient_limit, command_limit, Limits, RowLimits}
+use Rattle.control.specs.Limits.{setting_limit, most_states, most_inputs, coefficient_limit, command_limit, Limits, RowLimits}
 use Rattle.control.specs.Cover.{Holds, Cover}
-use Rattle.control.specs.Answers.{no_row, present, region_of, row_of}
-use Rattle.control.specs.Lines.{line, no_line, row_from}
-use Rattle.control.specs.Fixed.{fixed_ok, fixed_lines, fixed_rows, fixed_partition}
+use Rattle.control.specs.Lines.{line, row_from}
+use Rattle.control.specs.Fixed.{fixed_lines, fixed_partition}
 use Rattle.control.specs.Spread.{dot_spread, row_limits}
 
 abbrev pub fixed_meaning : ℕ → ℕ → List ℤ → Meaning

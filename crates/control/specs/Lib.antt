@@ -6,7 +6,6 @@ pub mod Answers
 pub mod Lines
 pub mod Fixed
 pub mod Saturated
-
 -- proofs of the laws of a controller
 pub mod Spread
 pub mod Inputs

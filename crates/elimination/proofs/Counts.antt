@@ -1,10 +1,10 @@
 -- The loops that copy the rows with 0 and count the rows by their signs.
-use Rattle.std.proofs.Common.{◌≡◌, ℕ, zero, suc, ◌+◌, ◌<◌, ◌≤◌, Bool, true, false, cond, List, [], ◌∷◌, ◌++◌, length, get_or, take, drop, set, filter, sym, ap, ◌∙◌, subst, arith}
+use Rattle.std.proofs.Common.{◌≡◌, ℕ, suc, ◌+◌, ◌<◌, ◌≤◌, Bool, true, false, cond, List, [], ◌∷◌, ◌++◌, length, get_or, take, drop, set, filter, sym, ap, ◌∙◌, subst, arith}
 use Rattle.std.proofs.lemmas.List.{take_more_set, append-nil, append_assoc}
 use Rattle.elimination.specs.declared.row.Row.{Row}
 use Rattle.fourier.specs.Cone.{is_zero, is_positive, is_negative}
 use Rattle.elimination.specs.Rows.{coefficient}
-use Rattle.elimination.specs.Columns.{zeros, positives, negatives}
+use Rattle.elimination.specs.Columns.{zeros}
 use Rattle.elimination.proofs.Signs.{zero_is, positive_only, negative_left}
 use Rattle.elimination.proofs.Turns.{no_row, kept_yes, kept_no, kept_none}
 

@@ -1,11 +1,11 @@
 -- What is known once a law text is read.
-use Rattle.std.proofs.Common.{◌≡◌, ℕ, true, List, length, Ok, Result, sym, ap, ◌∙◌, subst}
+use Rattle.std.proofs.Common.{◌≡◌, ℕ, true, List, length, Ok, ap, ◌∙◌}
 use Rattle.laws.specs.Controllers.{table_ok, table_meaning, law_meaning}
 use Rattle.laws.specs.Forms.{LawMeant}
 use Rattle.laws.specs.Laws.{LawText, law_of}
-use Rattle.laws.specs.Tables.{stored, answer_of, place_after}
+use Rattle.laws.specs.Tables.{answer_of, place_after}
 use Rattle.laws.specs.declared.table.LawTable.{LawTable}
-use Rattle.laws.proofs.Composing.{Known, known}
+use Rattle.laws.proofs.Composing.{known}
 
 pub record Meant (text : List ℕ) (n m : ℕ) (rest : List ℕ) (table : LawTable) : Type 0 where
   pub law : LawText

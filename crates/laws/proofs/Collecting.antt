@@ -1,6 +1,6 @@
 -- The lines of a law's inputs, one after another.
 use Rattle.std.proofs.Common.{◌≡◌, ℕ, zero, suc, ◌+◌, ◌-◌, ◌<◌, ◌≤◌, List, [], ◌∷◌, ◌++◌, map, length, take, drop, set, replicate, ℤ, Ok, Err, Result, sym, refl, ap, ◌∙◌, append_assoc, arith}
-use Rattle.std.proofs.lemmas.List.{append-nil, take_more_set}
+use Rattle.std.proofs.lemmas.List.{take_more_set}
 use Rattle.text.specs.Lines.{bind, padded, padded_line}
 use Rattle.laws.specs.Laws.{row_line, rows_of}
 use Rattle.laws.specs.Tables.{two, zero_row, rows_stored}

@@ -1,14 +1,13 @@
 -- The second line of a law text.
-use Rattle.std.proofs.Common.{◌≡◌, ℕ, ◌≤◌, List, [], ◌∷◌, get_or, ℤ, pos, negsuc, nat_abs, ◌≤ℤ◌, Some, None, Ok, Err, Option, Result, sym, refl, ap, ◌∙◌, arith}
+use Rattle.std.proofs.Common.{◌≡◌, ℕ, ◌≤◌, List, [], ◌∷◌, get_or, ℤ, pos, negsuc, nat_abs, ◌≤ℤ◌, Some, None, Ok, Err, Option, Result, sym, ap, ◌∙◌, arith}
 use Rattle.std.proofs.lemmas.Int.{ints}
 use Rattle.text.specs.Bytes.{line_feed}
 use Rattle.text.specs.Forms.{Fit}
 use Rattle.text.specs.Lines.{bind, cut_at, next_field, after_field, numbers_of, row_of, padded}
 use Rattle.text.specs.declared.faults.TextFault.{TextFault}
 use Rattle.text.proofs.Forming.{bind_ok, ok_same, numbers_fit}
-use Rattle.laws.specs.Laws.{Head, as_law, kind_at, head_by, head_cut, head_line, size_at}
+use Rattle.laws.specs.Laws.{as_law, kind_at, head_by, head_cut, head_line, size_at}
 use Rattle.laws.specs.Limits.{sizes_limits}
-use Rattle.laws.specs.declared.faults.LawFault.{LawFault}
 use Rattle.laws.specs.declared.faults.LawFault.TheVariants.{Text, Word}
 use Rattle.laws.specs.declared.table.LawKind.{LawKind}
 

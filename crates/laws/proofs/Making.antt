@@ -1,5 +1,5 @@
 -- What is read keeps the limits of its controller, and means what its values mean.
-use Rattle.std.proofs.Common.{◌≡◌, ℕ, zero, suc, ◌+◌, ◌-◌, ◌<◌, ◌≤◌, true, ◌&&◌, eqb, leb, List, [], ◌∷◌, ◌++◌, map, length, get_or, take, drop, replicate, ℤ, pos, neg_ℤ, ◌≤ℤ◌, Ok, sym, refl, ap, ◌∙◌, arith}
+use Rattle.std.proofs.Common.{◌≡◌, ℕ, zero, suc, ◌+◌, ◌-◌, ◌≤◌, true, ◌&&◌, leb, List, [], ◌∷◌, ◌++◌, map, length, get_or, take, drop, replicate, ℤ, pos, neg_ℤ, ◌≤ℤ◌, sym, refl, ap, ◌∙◌, arith}
 use lib.Signed.{le_z}
 use Rattle.std.specs.List.{AllByRecursion as All}
 use Rattle.std.proofs.lemmas.List.{length-append, length-replicate, length-take-le, get_or-drop, take-append-le}
@@ -9,17 +9,15 @@ use Rattle.arith.specs.Bounds.{within, all_within}
 use Rattle.control.specs.Fixed.{fixed_ok}
 use Rattle.control.specs.Limits.{most_states, most_inputs, sizes_ok, setting_limit}
 use Rattle.control.specs.Saturated.{gain_limit, offset_limit, most_divisor, input_ok, inputs_ok, saturated_ok}
-use Rattle.control.specs.declared.input.Input.{Input}
 use Rattle.control.proofs.Outcomes.{sizes_pass}
 use Rattle.text.specs.Forms.{Fit}
 use Rattle.text.specs.Lines.{padded, row_width}
 use Rattle.text.specs.declared.number.Limit.{Limit}
 use Rattle.text.proofs.Forming.{fit_length}
-use Rattle.laws.specs.Controllers.{saturated_law, fixed_law, table_ok, table_meaning, values_meaning, law_meaning}
-use Rattle.laws.specs.Forms.{LawMeant, LawKept, RowKept}
-use Rattle.laws.specs.Laws.{LawText, law_of}
+use Rattle.laws.specs.Controllers.{saturated_law, fixed_law, table_ok, table_meaning, values_meaning}
+use Rattle.laws.specs.Forms.{LawMeant, RowKept}
 use Rattle.laws.specs.Limits.{around, from_to, row_limits}
-use Rattle.laws.specs.Tables.{input_of, stored_rows, stored, table_of}
+use Rattle.laws.specs.Tables.{input_of, stored_rows, table_of}
 use Rattle.laws.specs.declared.table.LawKind.{LawKind}
 use Rattle.laws.specs.declared.table.LawKind.TheVariants.{Saturated, Fixed}
 use Rattle.laws.proofs.Rendering.{law_to}

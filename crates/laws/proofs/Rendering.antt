@@ -1,11 +1,9 @@
 -- A law text is read exactly when it is rendered.
-use Rattle.std.proofs.Common.{◌≡◌, ℕ, zero, suc, ◌+◌, ◌<◌, ◌≤◌, Bool, true, false, cond, ◌&&◌, leb, List, [], ◌∷◌, ◌++◌, length, get_or, ℤ, pos, negsuc, nat_abs, ◌≤ℤ◌, Some, None, Ok, Err, Option, Result, sym, refl, ap, ◌∙◌, subst, append_assoc, arith}
-use lib.Signed.{lt_z}
+use Rattle.std.proofs.Common.{◌≡◌, ℕ, zero, suc, ◌+◌, ◌<◌, ◌≤◌, Bool, true, false, cond, ◌&&◌, leb, List, [], ◌∷◌, ◌++◌, length, ℤ, pos, negsuc, nat_abs, ◌≤ℤ◌, Some, None, Ok, Err, Option, Result, sym, refl, ap, ◌∙◌, subst, arith}
 use Rattle.std.specs.List.{AllByRecursion as All}
 use Rattle.std.specs.Str.{bytes_eq}
 use Rattle.std.proofs.ByRecursion.{All-append, All-weaker}
 use Rattle.std.proofs.lemmas.Slice.Eq.{bytes_eq-Decides}
-use Rattle.std.proofs.lemmas.List.{length-append}
 use Rattle.std.proofs.lemmas.Int.{ints}
 use Rattle.std.proofs.lemmas.Bool.{and_parts, and_from, leb-true, le-leb, cond-true, cond-false}
 use Rattle.text.specs.Bytes.{space, line_feed}
@@ -14,13 +12,12 @@ use Rattle.text.specs.Lines.{bind, size_of, text_limit, names_line, numbers_line
 use Rattle.text.specs.Render.{fields_text, line_before}
 use Rattle.text.specs.declared.faults.TextFault.{TextFault}
 use Rattle.text.specs.declared.faults.TextFault.TheVariants.{Size}
-use Rattle.text.specs.declared.number.Limit.{Limit}
 use Rattle.text.proofs.Forming.{Above, bind_ok, ok_same, cut_is, cut_front, fields_above, above_from_test, nothing_left, numbers_to, numbers_from, names_to, names_from, row_to, row_from}
 use Rattle.laws.specs.Forms.{LawForm, LawKept, RowKept, Ordered, rows_before, head_text, law_before}
 use Rattle.laws.specs.Laws.{LawText, Head, law_names, word_of, row_names, kind_of, kind_at, as_law, size_at, head_by, head_cut, head_line, misordered, ordered, row_line, rows_of, body_of, law_of}
 use Rattle.laws.specs.Limits.{row_limits, sizes_limits, states_limit, inputs_limit}
 use Rattle.laws.specs.declared.faults.LawFault.{LawFault}
-use Rattle.laws.specs.declared.faults.LawFault.TheVariants.{Text, Word, Order}
+use Rattle.laws.specs.declared.faults.LawFault.TheVariants.{Order}
 use Rattle.laws.specs.declared.table.LawKind.{LawKind}
 use Rattle.laws.specs.declared.table.LawKind.TheVariants.{Saturated, Fixed}
 use Rattle.laws.proofs.Composing.{rows_length}

@@ -1,5 +1,5 @@
 -- What reading a law text gives, and the first fault in reading it from the front.
-use Rattle.std.specs.Prelude.{◌≡◌, ℕ, zero, suc, ◌+◌, ◌≤◌, Bool, false, cond, List, [], ◌∷◌, ◌++◌, length, ℤ, pos, Some, None, Ok, Err, codes, Option, Result, int_lt, slice_index_or, unsigned_abs}
+use Rattle.std.specs.Prelude.{ℕ, zero, suc, ◌+◌, Bool, false, cond, List, [], ◌∷◌, ℤ, pos, Some, None, Ok, Err, codes, Option, Result, int_lt, slice_index_or, unsigned_abs}
 use Rattle.std.specs.Str.{bytes_eq}
 use Rattle.text.specs.Bytes.{line_feed}
 use Rattle.text.specs.Lines.{bind, size_of, names_line, numbers_of, numbers_line, cut_at, next_field, after_field, place}

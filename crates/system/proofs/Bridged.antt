@@ -6,12 +6,11 @@ use Rattle.std.proofs.lemmas.List.{append_assoc, length-append, length-replicate
 use Rattle.control.specs.Cover.{Holds}
 use Rattle.control.specs.Meaning.{Row}
 use Rattle.case.specs.declared.values.StateEquation.{StateEquation}
-use Rattle.case.specs.declared.values.ExtraFace.{ExtraFace}
 use Rattle.case.specs.Faces.{unit, box_faces, extra_face, faces}
 use Rattle.case.specs.Next.{Bounded, Permitted}
-use Rattle.case.specs.System.{none, over_states, over_commands, push_rows, next_rows, system}
+use Rattle.case.specs.System.{none, over_states, over_commands, push_rows, next_rows}
 use Rattle.case.specs.Values.{CaseValues, state_count, push_count}
-use Rattle.system.specs.Bridge.{Step, Solves, Bridge}
+use Rattle.system.specs.Bridge.{Bridge}
 use Rattle.system.proofs.Rows.{Same, all_append_parts, dot_front, widened, pushes_same, EquationWide, nexts_same}
 
 -- the rows of a case have the lengths that its numbers of states, inputs and pushes ask for

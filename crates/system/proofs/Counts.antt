@@ -1,7 +1,6 @@
 -- How many rows and columns the system of a region has.
-use Rattle.std.proofs.Common.{◌≡◌, ℕ, suc, ◌+◌, ◌*◌, ◌≤◌, List, [], ◌∷◌, ◌++◌, map, length, sym, refl, ap, ◌∙◌, arith}
+use Rattle.std.proofs.Common.{◌≡◌, ℕ, suc, ◌+◌, ◌*◌, List, [], ◌∷◌, ◌++◌, map, length, refl, arith}
 use Rattle.std.proofs.lemmas.List.{length-append, length-map}
-use Rattle.control.specs.Limits.{most_rows}
 use Rattle.control.specs.Meaning.{Row}
 use Rattle.case.specs.declared.values.StateEquation.{StateEquation}
 use Rattle.case.specs.declared.values.PushBounds.{PushBounds}

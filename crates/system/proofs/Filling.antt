@@ -9,7 +9,7 @@ use Rattle.arith.specs.Bounds.{Within}
 use Rattle.arith.proofs.Bounds.{sfits_within, negated_within, sum_read, difference_is, difference_fits}
 use Rattle.control.specs.declared.fault.ControlFault.{ControlFault}
 use Rattle.control.specs.Answers.{no_row, present, region_of, row_of, row_answer, row_fills}
-use Rattle.control.specs.Meaning.{Row, Meaning}
+use Rattle.control.specs.Meaning.{Meaning}
 use Rattle.control.proofs.Outcomes.{there, row_found}
 use Rattle.case.specs.declared.values.StateEquation.{StateEquation}
 use Rattle.case.specs.declared.values.PushBounds.{PushBounds}

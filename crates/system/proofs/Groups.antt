@@ -6,7 +6,7 @@ use Rattle.control.specs.Meaning.{Row}
 use Rattle.case.specs.declared.values.Case.{Case}
 use Rattle.case.specs.Faces.{faces}
 use Rattle.case.specs.System.{over_states, over_commands, push_rows, next_rows, system}
-use Rattle.case.specs.Values.{CaseValues, state_count, push_count, values_of}
+use Rattle.case.specs.Values.{CaseValues, values_of}
 use Rattle.system.proofs.Stored.{states_are, pushes_are, extras_are}
 use Rattle.system.proofs.Counts.{faces_count, push_rows_count, case_rows}
 

@@ -1,5 +1,5 @@
 -- Every row of a case's system keeps the limits of a row: its length, its coefficients and its right side.
-use Rattle.std.proofs.Common.{◌≡◌, ℕ, suc, ◌+◌, ◌≤◌, List, [], ◌∷◌, ◌++◌, map, length, take, ℤ, pos, negsuc, ◌+ℤ◌, ◌-ℤ◌, ◌*ℤ◌, neg_ℤ, ◌≤ℤ◌, sym, refl, ap, ◌∙◌, subst, arith}
+use Rattle.std.proofs.Common.{◌≡◌, ℕ, suc, ◌+◌, List, [], ◌∷◌, ◌++◌, map, length, take, ℤ, pos, negsuc, ◌+ℤ◌, ◌-ℤ◌, ◌*ℤ◌, neg_ℤ, sym, ◌∙◌, subst, arith}
 use Rattle.std.specs.List.{AllByRecursion as All}
 use Rattle.std.proofs.ByRecursion.{All-append, All-map, All-take, All-weaker, All-set}
 use Rattle.std.proofs.lemmas.List.{length-append, length-map, length-replicate}
@@ -12,13 +12,13 @@ use Rattle.case.specs.declared.values.StateEquation.{StateEquation}
 use Rattle.case.specs.declared.values.PushBounds.{PushBounds}
 use Rattle.case.specs.declared.values.ExtraFace.{ExtraFace}
 use Rattle.case.specs.declared.values.Case.{Case}
-use Rattle.case.specs.Limits.{bound_limit, divisor_limit}
+use Rattle.case.specs.Limits.{bound_limit}
 use Rattle.case.specs.Faces.{unit, box_faces, extra_face, faces}
 use Rattle.case.specs.System.{column_count, none, over_states, over_commands, push_rows, equation_row, next_rows, system}
 use Rattle.case.specs.Values.{CaseValues, state_count, push_count, equation_of, extra_of, values_of}
 use Rattle.system.proofs.Rows.{EquationWide}
 use Rattle.system.proofs.Bridged.{Wide, unit_long}
-use Rattle.system.proofs.Stored.{RangeOk, RowOk, EquationOk, ExtraOk, ok_bounds, states_are, stored_equations, stored_extras, case_wide}
+use Rattle.system.proofs.Stored.{RangeOk, EquationOk, ExtraOk, ok_bounds, states_are, stored_equations, stored_extras, case_wide}
 
 -- a coefficient list within its limit
 abbrev Small : List ℤ → Type 0

@@ -1,19 +1,17 @@
 -- The answers, case by case, for every case and every meaning of a controller.
-use Rattle.std.proofs.Common.{◌≡◌, ℕ, ◌+◌, ◌-◌, ◌*◌, ◌<◌, ◌≤◌, Bool, true, false, cond, ◌&&◌, eqb, ltb, ◌⊎◌, List, [], length, get_or, ℤ, Ok, Err, Result, sym, refl, ap, ◌∙◌, subst, inl, inr, arith}
+use Rattle.std.proofs.Common.{◌≡◌, ℕ, ◌+◌, ◌-◌, ◌*◌, ◌≤◌, Bool, true, false, cond, eqb, ltb, ◌⊎◌, [], length, Ok, Err, sym, refl, ap, ◌∙◌, subst, inl, inr, arith}
 use Rattle.std.specs.List.{AllByRecursion as All}
 use Rattle.std.proofs.ByRecursion.{All-get_or, All-weaker}
 use Rattle.std.proofs.lemmas.Bool.{and_parts, and_left, and_right, and_from, ltb-true, eqb-true, eq-eqb, ne_eqb}
 use Rattle.control.specs.declared.fault.ControlFault.{ControlFault}
 use Rattle.control.specs.declared.fault.ControlFault.TheVariants as control
-use Rattle.control.specs.Meaning.{Row, Meaning}
+use Rattle.control.specs.Meaning.{Meaning}
 use Rattle.control.specs.Limits.{most_rows, Limits, RegionLimits, RowLimits}
 use Rattle.control.specs.Answers.{present, region_of, rows_answer}
 use Rattle.case.specs.declared.values.Case.{Case}
 use Rattle.case.specs.Values.{CaseValues, state_count, values_of}
-use Rattle.case.specs.Faces.{faces}
-use Rattle.case.specs.System.{column_count, system}
-use Rattle.system.specs.declared.fault.SystemFault.{SystemFault}
-use Rattle.system.specs.declared.fault.SystemFault.TheVariants.{Sizes, Missing, Length}
+use Rattle.case.specs.System.{column_count}
+use Rattle.system.specs.declared.fault.SystemFault.TheVariants.{Sizes, Missing}
 use Rattle.system.specs.declared.size.SystemSize.{SystemSize}
 use Rattle.system.specs.Bridge.{Bridge}
 use Rattle.system.specs.Answers.{fits, system_of, size_answer}

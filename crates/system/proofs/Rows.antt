@@ -1,7 +1,7 @@
 -- Which rows of a system hold: row group by row group.
-use Rattle.std.proofs.Common.{◌≡◌, ℕ, zero, suc, ◌+◌, ◌<◌, ◌≤◌, List, [], ◌∷◌, ◌++◌, map, length, get_or, drop, set, replicate, ℤ, pos, negsuc, ◌+ℤ◌, ◌-ℤ◌, ◌*ℤ◌, neg_ℤ, ◌≤ℤ◌, sym, refl, ap, ◌∙◌, subst, arith, drop-cons}
+use Rattle.std.proofs.Common.{◌≡◌, ℕ, suc, ◌+◌, ◌<◌, List, [], ◌∷◌, ◌++◌, map, length, get_or, drop, ℤ, pos, negsuc, ◌+ℤ◌, ◌-ℤ◌, ◌*ℤ◌, neg_ℤ, ◌≤ℤ◌, sym, ap, ◌∙◌, subst, arith, drop-cons}
 use Rattle.std.specs.List.{AllByRecursion as All}
-use Rattle.std.proofs.lemmas.List.{append_assoc, drop_all, length-append, length-map, length-replicate, length-set}
+use Rattle.std.proofs.lemmas.List.{drop_all, length-append, length-map, length-replicate, length-set}
 use Rattle.std.proofs.lemmas.Int.{ints}
 use Rattle.arith.specs.Products.{dot}
 use Rattle.arith.proofs.Dots.{dot_append, dot_map, dot_zero, dot_unit}
@@ -11,7 +11,7 @@ use Rattle.control.specs.Meaning.{Row}
 use Rattle.case.specs.declared.values.StateEquation.{StateEquation}
 use Rattle.case.specs.declared.values.PushBounds.{PushBounds}
 use Rattle.case.specs.Faces.{unit}
-use Rattle.case.specs.Next.{aim, Permits, AllPermitted, AllBounded}
+use Rattle.case.specs.Next.{Permits, AllPermitted, AllBounded}
 use Rattle.case.specs.System.{none, push_rows, equation_row, next_rows}
 use Rattle.case.specs.Values.{CaseValues, state_count, push_count}
 

@@ -1,5 +1,5 @@
 -- What the limits of a case give for its values.
-use Rattle.std.proofs.Common.{◌≡◌, ℕ, zero, suc, ◌+◌, ◌*◌, ◌<◌, ◌≤◌, Bool, true, ◌&&◌, eqb, List, [], ◌∷◌, map, length, take, ℤ, pos, ◌≤ℤ◌, sym, refl, ap, ◌∙◌, subst, arith}
+use Rattle.std.proofs.Common.{◌≡◌, ℕ, ◌≤◌, true, ◌&&◌, eqb, List, [], ◌∷◌, length, take, ℤ, pos, ◌≤ℤ◌, sym, ◌∙◌, arith}
 use lib.Signed.{le_z}
 use Rattle.std.specs.List.{AllByRecursion as All}
 use Rattle.std.proofs.ByRecursion.{All-map, All-take, All-weaker}
@@ -13,7 +13,7 @@ use Rattle.case.specs.declared.values.PushBounds.{PushBounds}
 use Rattle.case.specs.declared.values.ExtraFace.{ExtraFace}
 use Rattle.case.specs.declared.values.Case.{Case}
 use Rattle.case.specs.Limits.{most_pushes, bound_limit, entry_limit, constant_limit, extra_limit, leeway_limit, range_ok, row_ok, equation_ok, bounds_ok, extra_ok, all_equations_ok, all_bounds_ok, all_extras_ok}
-use Rattle.case.specs.Values.{CaseValues, state_count, push_count, equation_of, extra_of, values_of}
+use Rattle.case.specs.Values.{state_count, push_count, equation_of, extra_of, values_of}
 use Rattle.system.proofs.Rows.{EquationWide}
 use Rattle.system.proofs.Bridged.{Wide}
 

@@ -1,5 +1,5 @@
 -- What is read is exactly what is rendered: fields, lines of numbers and lines of names.
-use Rattle.std.proofs.Common.{◌≡◌, ℕ, zero, suc, ◌+◌, ◌-◌, ◌<◌, ◌≤◌, Bool, true, false, cond, ◌&&◌, eqb, ltb, List, [], ◌∷◌, ◌++◌, map, length, ℤ, pos, negsuc, ◌≤ℤ◌, Some, None, Ok, Err, Option, Result, sym, refl, ap, ◌∙◌, append_assoc, arith}
+use Rattle.std.proofs.Common.{◌≡◌, ℕ, zero, suc, ◌+◌, ◌<◌, Bool, true, false, cond, ◌&&◌, eqb, ltb, List, [], ◌∷◌, ◌++◌, map, length, ℤ, pos, negsuc, ◌≤ℤ◌, Some, None, Ok, Err, Option, Result, sym, refl, ap, ◌∙◌, arith}
 use lib.Signed.{le_z}
 use Rattle.std.specs.Option.{option_map}
 use Rattle.std.specs.Int.Digits.{digits_of}
@@ -12,7 +12,7 @@ use Rattle.std.proofs.lemmas.Bool.{eq-eqb, ne_eqb, and_parts, and_from, cond-tru
 use Rattle.std.proofs.lemmas.Bool.Decides.{nat_tests}
 use Rattle.text.specs.Bytes.{space, line_feed, minus}
 use Rattle.text.specs.Forms.{Fit, RowForm, NamesForm, all_above}
-use Rattle.text.specs.Lines.{bind, cut_at, cons_front, first_field, split_field, place, placed, next_number, after_field, end_of, numbers_of, numbers_by, numbers_line, names_by, names_line}
+use Rattle.text.specs.Lines.{bind, cut_at, cons_front, first_field, place, placed, numbers_of, numbers_by, numbers_line, names_by, names_line}
 use Rattle.text.specs.Numbers.{number_of, within, field_of}
 use Rattle.text.specs.Render.{ascii, render-ℕ, render, fields_text, line_before}
 use Rattle.text.specs.declared.faults.FieldFault.{FieldFault}

@@ -1,4 +1,4 @@
-use Rattle.std.proofs.Common.{◌≡◌, ℕ, zero, suc, ◌+◌, ◌-◌, ◌*◌, ◌^◌, ◌<◌, ◌≤◌, min, Bool, true, false, cond, not, ◌&&◌, eqb, List, [], ◌∷◌, length, get_or, take, drop, ℤ, pos, negsuc, ◌-ℤ◌, Some, None, Ok, Err, Option, sym, refl, ap, ◌∙◌, arith, w64, SFits}
+use Rattle.std.proofs.Common.{◌≡◌, ℕ, zero, suc, ◌+◌, ◌-◌, ◌*◌, ◌^◌, ◌<◌, ◌≤◌, min, true, false, cond, ◌&&◌, eqb, List, [], ◌∷◌, length, get_or, take, drop, ℤ, pos, negsuc, ◌-ℤ◌, Some, None, Ok, Err, Option, sym, refl, ap, ◌∙◌, arith, w64, SFits}
 use lib.Signed.{le_z}
 use Rattle.std.proofs.lemmas.Int.{ints}
 use Rattle.text.specs.declared.faults.FieldFault.TheVariants.{Malformed, Outside}
@@ -7,7 +7,7 @@ use Rattle.std.specs.Option.{option_map}
 use Rattle.std.proofs.lemmas.Bool.Decides.{nat_tests}
 use Rattle.text.specs.Bytes.{is_digit, class_of}
 use Rattle.text.specs.Numbers.{digits_after, magnitude_of, capped, clipped, negated, number_of, within}
-use Rattle.text.specs.declared.bytes.ByteClass.TheVariants.{Digit, Minus, Space, LineFeed, Foreign}
+use Rattle.text.specs.declared.bytes.ByteClass.TheVariants.{Digit}
 
 pub cap_step : (n m d : ℕ) → capped n ≡ capped m → capped (n * 10 + d) ≡ capped (m * 10 + d)
 cap_step n m d e = omega arith

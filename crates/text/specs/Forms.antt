@@ -1,5 +1,5 @@
 -- The form of a text, said by rendering: what is read is exactly what is written so.
-use Rattle.std.specs.Prelude.{◌≡◌, ℕ, ◌<◌, ◌≤◌, Bool, true, ◌&&◌, List, [], ◌∷◌, ◌++◌, length, ℤ, ◌≤ℤ◌, Some, Ok, nat_lt}
+use Rattle.std.specs.Prelude.{◌≡◌, ℕ, ◌<◌, Bool, true, ◌&&◌, List, [], ◌∷◌, length, ℤ, ◌≤ℤ◌, Some, Ok, nat_lt}
 use Rattle.text.specs.Bytes.{line_feed}
 use Rattle.text.specs.Numbers.{number_of}
 use Rattle.text.specs.Lines.{names_line, numbers_line}

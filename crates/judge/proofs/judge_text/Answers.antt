@@ -1,8 +1,6 @@
-use Rattle.std.proofs.Common.{◌≡◌, length, is_some, sym, ap, ◌∙◌, arith}
+use Rattle.std.proofs.Common.{length, is_some, sym, ap, ◌∙◌, arith}
 use Rattle.std.proofs.lemmas.Bool.{false≢true}
 use Rattle.control.specs.Meaning.{Meaning}
-use Rattle.laws.specs.Laws.{law_of}
-use Rattle.laws.specs.Controllers.{law_meaning}
 use Rattle.laws.specs.Controlling.{law_limits}
 use Rattle.judge.specs.Judging.{case_verdict, verdict_by}
 use Rattle.judge.proofs.Known.{meant}

@@ -3,7 +3,7 @@ use Rattle.std.proofs.Common.{refl, ap, ◌∙◌}
 use Rattle.text.specs.Lines.{with_rest, names_line}
 use Rattle.text.proofs.Rows.{err_is}
 use Rattle.case.specs.Texts.{proof_names, state_section, push_section, dynamics_section, extra_section, body_of}
-use Rattle.case.proofs.Composing.{goes, stays, after_states, after_pushes, after_dynamics, after_extras, proofs_refused, body_read}
+use Rattle.case.proofs.Composing.{goes, after_states, after_pushes, after_dynamics, after_extras, proofs_refused, body_read}
 use Rattle.case.proofs.rows.read_body.Goals as goal
 
 pub returns-in_err-proofs : goal.returns-in_err-proofs

@@ -1,12 +1,12 @@
-use Rattle.std.proofs.Common.{◌≡◌, get_or, pos, nat_abs, sym, refl, ap, ◌∙◌, arith, w64, SFits, to_z, of_z, rules}
-use Rattle.std.proofs.lemmas.Result.{IfOk-from_err, err_from_is_err_and}
+use Rattle.std.proofs.Common.{◌≡◌, get_or, pos, nat_abs, ap, ◌∙◌, arith, w64, SFits, rules}
+use Rattle.std.proofs.lemmas.Result.{IfOk-from_err}
 use Rattle.std.proofs.lemmas.Int.{ints, to_z-of_z}
 use Rattle.text.specs.Left.{left_of}
 use Rattle.text.specs.Lines.{next_field, after_field}
 use Rattle.laws.specs.Laws.{kind_at}
 use Rattle.laws.specs.Tables.{head_told}
 use Rattle.text.proofs.Rows.{err_is}
-use Rattle.laws.proofs.Heading.{head_absent, head_word, head_err, head_ok, sizes_are, size_small}
+use Rattle.laws.proofs.Heading.{head_err, head_ok, sizes_are, size_small}
 use Rattle.laws.proofs.head.read_head.Goals as goal
 
 pub returns-in_err-sizes : goal.returns-in_err-sizes

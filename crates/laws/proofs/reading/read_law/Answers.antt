@@ -1,4 +1,4 @@
-use Rattle.std.proofs.Common.{◌≡◌, sym, ap, ◌∙◌}
+use Rattle.std.proofs.Common.{ap, ◌∙◌}
 use Rattle.laws.specs.Tables.{told}
 use Rattle.laws.specs.Laws.{Head, law_of}
 use Rattle.laws.specs.declared.head.LawHead.{LawHead}

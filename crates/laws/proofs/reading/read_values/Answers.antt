@@ -1,8 +1,8 @@
-use Rattle.std.proofs.Common.{◌≡◌, sym, ap, ◌∙◌}
+use Rattle.std.proofs.Common.{ap, ◌∙◌}
 use Rattle.std.proofs.lemmas.Result.{IfOk-from_err}
 use Rattle.text.specs.Lines.{names_line}
 use Rattle.laws.specs.Tables.{values_told}
-use Rattle.laws.specs.Laws.{Head, row_names}
+use Rattle.laws.specs.Laws.{Head}
 use Rattle.laws.specs.declared.head.LawHead.{LawHead}
 use Rattle.laws.proofs.Composing.{size_refused, names_refused, head_refused, row_names_refused, rows_refused, rows_read}
 use Rattle.text.proofs.Rows.{err_is}

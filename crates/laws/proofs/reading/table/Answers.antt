@@ -1,4 +1,4 @@
-use Rattle.std.proofs.Common.{◌≡◌, [], ◌∷◌, get_or, pos, sym, ap, ◌∙◌, w64, SFits, rules}
+use Rattle.std.proofs.Common.{[], get_or, pos, sym, ap, w64, SFits, rules}
 use Rattle.std.proofs.lemmas.Int.{to_z-of_z}
 use Rattle.laws.specs.Tables.{table_of}
 use Rattle.laws.proofs.reading.table.Goals as goal

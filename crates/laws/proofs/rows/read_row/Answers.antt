@@ -1,4 +1,4 @@
-use Rattle.std.proofs.Common.{◌≡◌, sym, ap, ◌∙◌}
+use Rattle.std.proofs.Common.{sym, ap, ◌∙◌}
 use Rattle.text.specs.Lines.{with_rest}
 use Rattle.text.proofs.Rows.{err_is}
 use Rattle.laws.proofs.Storing.{limits_whole, row_break, row_out, row_in}

@@ -1,8 +1,7 @@
-use Rattle.std.proofs.Common.{◌≡◌, ◌-◌, take, sym, refl, ap, ◌∙◌, arith, length-set}
+use Rattle.std.proofs.Common.{take, refl, ap, ◌∙◌, arith, length-set}
 use native.Mathlib.Nat.{sub-zero}
 use Rattle.text.specs.Lines.{with_rest}
-use Rattle.laws.specs.Laws.{rows_of}
-use Rattle.laws.proofs.Collecting.{stored_behind, behind_none, more, stops, ends}
+use Rattle.laws.proofs.Collecting.{behind_none, more, stops, ends}
 use Rattle.laws.specs.Tables.{zero_row}
 use Rattle.text.proofs.Rows.{err_is, rest_more}
 use Rattle.laws.proofs.rows.read_rows.Goals as goal

@@ -1,7 +1,6 @@
 -- The proof of `clear`: what the search leaves.
 use Rattle.std.proofs.Common.{◌≡◌, ◌<◌, ◌≢◌, length, pos, sym, ◌∙◌, arith, get_or-set_other, get_or-set_same, below_more}
 use Rattle.std.proofs.lemmas.List.{ext_get_or, length-replicate, get_or-replicate}
-use Rattle.case.specs.System.{none}
 use Rattle.system.proofs.fill.clear.Goals as goal
 
 pub loop-i-preserved : goal.loop-i-preserved

@@ -1,5 +1,5 @@
 -- The proof of `fill_row`: what the search leaves.
-use Rattle.std.proofs.Common.{◌+◌, ◌-◌, ◌*◌, ◌<◌, ◌≤◌, length, sym, refl, ap, ◌∙◌, arith, w64, SFits, rules}
+use Rattle.std.proofs.Common.{refl, ◌∙◌, arith, w64, SFits, rules}
 use Rattle.std.proofs.lemmas.Int.{to_z-of_z}
 use Rattle.control.specs.Meaning.{meaning}
 use Rattle.control.specs.Answers.{region_of}

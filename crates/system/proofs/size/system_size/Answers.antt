@@ -1,11 +1,9 @@
 -- The proof of `system_size`: what the search leaves.
-use Rattle.std.proofs.Common.{◌≡◌, ◌+◌, ◌*◌, ◌≤◌, Ok, sym, ap, ◌∙◌, inl, inr, arith, rules}
+use Rattle.std.proofs.Common.{◌≤◌, sym, ◌∙◌, inl, inr, arith, rules}
 use Rattle.control.specs.Limits.{most_rows}
-use Rattle.control.specs.Meaning.{Meaning, meaning}
-use Rattle.control.specs.Answers.{region_of}
+use Rattle.control.specs.Meaning.{meaning}
 use Rattle.case.specs.Values.{values_of}
-use Rattle.system.proofs.Counts.{case_rows, case_columns}
-use Rattle.system.proofs.Outcomes.{sizes_agree, sizes_differ, counted, missing, few_rows, region_bridge, size_refused, size_missing, size_found, size_is}
+use Rattle.system.proofs.Outcomes.{sizes_agree, sizes_differ, counted, missing, few_rows, region_bridge, size_refused, size_missing, size_is}
 use Rattle.system.proofs.size.system_size.Given as given
 use Rattle.system.proofs.size.system_size.Goals as goal
 use Rattle.system.proofs.size.system_size.Goals.{then-states-case-via-then-states-case, then-states-case-via-else-states-case+then-inputs-case}

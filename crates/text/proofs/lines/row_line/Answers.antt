@@ -1,4 +1,4 @@
-use Rattle.std.proofs.Common.{◌≡◌, take, ap, ◌∙◌}
+use Rattle.std.proofs.Common.{take, ap, ◌∙◌}
 use Rattle.text.specs.Lines.{numbers_by, padded_line, with_rest, row_width}
 use Rattle.text.proofs.Forming.{row_form}
 use Rattle.text.proofs.Rows.{err_is, line_err, line_ok}

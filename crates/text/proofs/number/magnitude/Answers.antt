@@ -1,7 +1,6 @@
-use Rattle.std.proofs.Common.{◌≡◌, ◌<◌, length, get_or, sym, ap, ◌∙◌, arith, rules}
+use Rattle.std.proofs.Common.{sym, ap, ◌∙◌, arith, rules}
 use Rattle.std.specs.Option.{option_map}
-use Rattle.std.proofs.lemmas.List.{at_drop_all}
-use Rattle.text.specs.Numbers.{digits_after, magnitude_of, capped}
+use Rattle.text.specs.Numbers.{capped}
 use Rattle.text.proofs.Reading.{more_digits, finished, stopped, magnitude_plain}
 use Rattle.text.proofs.number.magnitude.Goals as goal
 
