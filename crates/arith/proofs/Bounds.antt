@@ -2,7 +2,7 @@
 use Rattle.std.proofs.Common.{◌≡◌, ℕ, zero, suc, ◌+◌, ◌*◌, ◌^◌, ◌<◌, ◌≤◌, true, false, ◌&&◌, T, leb, ◌⊎◌, List, [], ◌∷◌, length, get_or, drop, replicate, ℤ, pos, negsuc, ◌+ℤ◌, ◌-ℤ◌, ◌*ℤ◌, neg_ℤ, nat_abs, ◌≤ℤ◌, ◌<ℤ◌, sym, refl, ap, ◌∙◌, subst, inl, inr, arith, w64, SFits, to_z, of_z}
 use lib.IntN.{pos-*ℤ-pos, pos-*ℤ-negsuc, negsuc-*ℤ-pos, negsuc-*ℤ-negsuc}
 use lib.Signed.{le_z}
-use Rattle.std.specs.List.{AllByRecursion as All}
+use Rattle.std.specs.List.{AllByRecursion}
 use Rattle.std.proofs.lemmas.Nat.{mul-le}
 use Rattle.std.proofs.ByRecursion.{All-weaker}
 use Rattle.std.proofs.lemmas.List.{at_drop_more}
@@ -21,7 +21,7 @@ le_z_false a b e = grind (arith, ints)
 pub within_from_test : (m : ℕ) (z : ℤ) → within m z ≡ true → Within m z
 within_from_test m z e = let p = and_parts _ _ e in (record { le = subst T (sym p.0) tt }, record { le = subst T (sym p.1) tt })
 
-pub all_from_test : (m : ℕ) (zs : List ℤ) → all_within m zs ≡ true → All (Within m) zs
+pub all_from_test : (m : ℕ) (zs : List ℤ) → all_within m zs ≡ true → AllByRecursion (Within m) zs
 all_from_test m [] e = tt
 all_from_test m (z ∷ zs) e = let p = and_parts (within m z) (all_within m zs) e in (within_from_test m z p.0, all_from_test m zs p.1)
 
@@ -46,13 +46,13 @@ within_is m (negsuc n) = grind (arith, ints, nat_tests)
 pub within_wider : (m n : ℕ) → m ≤ n → (z : ℤ) → Within m z → Within n z
 within_wider m n le z w = (omega (arith, ints), omega (arith, ints))
 
-pub all_wider : (m n : ℕ) → m ≤ n → (zs : List ℤ) → All (Within m) zs → All (Within n) zs
+pub all_wider : (m n : ℕ) → m ≤ n → (zs : List ℤ) → AllByRecursion (Within m) zs → AllByRecursion (Within n) zs
 all_wider m n le zs w = All-weaker (Within m) (Within n) (within_wider m n le) zs w
 
 pub negated_within : (m : ℕ) (z : ℤ) → Within m z → Within m (neg_ℤ z)
 negated_within m z w = (omega (arith, ints), omega (arith, ints))
 
-pub zeros_within : (m k : ℕ) → All (Within m) (replicate k (pos 0))
+pub zeros_within : (m k : ℕ) → AllByRecursion (Within m) (replicate k (pos 0))
 zeros_within m zero = tt
 zeros_within m (suc k) = ((omega (arith, ints), omega (arith, ints)), zeros_within m k)
 

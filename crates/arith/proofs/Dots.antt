@@ -1,7 +1,7 @@
 -- Lemmas on the product of two lists.
 use Rattle.std.proofs.Common.{◌≡◌, ℕ, zero, suc, ◌+◌, ◌*◌, ◌<◌, ◌≤◌, List, [], ◌∷◌, ◌++◌, map, length, get_or, drop, set, replicate, ℤ, pos, ◌+ℤ◌, ◌*ℤ◌, sym, refl, ap, ◌∙◌, subst, mul-suc, arith}
 use lib.IntN.{zero-*ℤ, *ℤ-zero, +ℤ_idl}
-use Rattle.std.specs.List.{AllByRecursion as All}
+use Rattle.std.specs.List.{AllByRecursion}
 use Rattle.std.proofs.lemmas.List.{drop_more, drop_all}
 use Rattle.std.proofs.lemmas.Int.{ints}
 use Rattle.arith.specs.Bounds.{Within}
@@ -34,7 +34,7 @@ dot_unit (suc m) zero o (z ∷ u) lt e = omega (arith, ints, dot_zero m u)
 dot_unit (suc m) (suc j) o (z ∷ u) lt e = omega (arith, ints, dot_unit m j o u (omega arith) (omega arith), zero-*ℤ z)
 
 -- the bound of a product
-pub dot_within : (b m : ℕ) (g x : List ℤ) → length g ≡ length x → All (Within b) g → All (Within m) x → Within (b * m * length g) (dot g x)
+pub dot_within : (b m : ℕ) (g x : List ℤ) → length g ≡ length x → AllByRecursion (Within b) g → AllByRecursion (Within m) x → Within (b * m * length g) (dot g x)
 dot_within b m [] x e vg vx = (omega (arith, ints), omega (arith, ints))
 dot_within b m (a ∷ g) [] e vg vx = absurd (omega arith)
 dot_within b m (a ∷ g) (z ∷ x) e vg vx =

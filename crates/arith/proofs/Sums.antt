@@ -1,6 +1,6 @@
 -- One turn of the loop that sums the products of two lists.
 use Rattle.std.proofs.Common.{◌≡◌, ℕ, ◌+◌, ◌*◌, ◌<◌, ◌≤◌, List, length, get_or, drop, ℤ, pos, ◌+ℤ◌, ◌*ℤ◌, sym, ap, ◌∙◌, subst, arith, lit<, w64, SFits, to_z, of_z}
-use Rattle.std.specs.List.{AllByRecursion as All}
+use Rattle.std.specs.List.{AllByRecursion}
 use Rattle.std.proofs.ByRecursion.{All-get_or}
 use Rattle.std.proofs.lemmas.Int.{ints, to_z-of_z}
 use Rattle.arith.specs.Bounds.{Within}
@@ -25,7 +25,7 @@ pub record Turn (a b : List ℤ) (i : ℕ) (s x y : ℤ) : Type 0 where
   pub more : (s +ℤ x *ℤ y) +ℤ dot (drop (i + 1) a) (drop (i + 1) b) ≡ dot a b
   pub bound : Within (term_limit * (i + 1)) (s +ℤ x *ℤ y)
 
-pub turn : (a b : List ℤ) (i : ℕ) (s : ℤ) → i < length a → length a ≡ length b → length a ≤ most_terms → All (Within factor_limit) a → All (Within factor_limit) b → Summed a b i s → Turn a b i s (get_or a i (pos 0)) (get_or b i (pos 0))
+pub turn : (a b : List ℤ) (i : ℕ) (s : ℤ) → i < length a → length a ≡ length b → length a ≤ most_terms → AllByRecursion (Within factor_limit) a → AllByRecursion (Within factor_limit) b → Summed a b i s → Turn a b i s (get_or a i (pos 0)) (get_or b i (pos 0))
 turn a b i s lt e le va vb sum =
     let lb : i < length b = omega arith in
     let x = get_or a i (pos 0) in

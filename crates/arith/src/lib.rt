@@ -2,7 +2,7 @@
 #![tactic(auto)]
 
 ghost use Rattle.std.specs.Prelude.{◌≡◌, ◌≤◌, length};
-ghost use Rattle.std.specs.List.{AllByRecursion as All};
+ghost use Rattle.std.specs.List.{AllByRecursion};
 ghost use Rattle.arith.specs.Bounds.{Within, within, all_within};
 ghost use Rattle.arith.specs.Products.{dot, factor_limit, most_terms};
 
@@ -29,8 +29,8 @@ pub fn all_within(values: &[i64], limit: u64) -> bool
 pub fn dot_product(a: &[i64], b: &[i64]) -> i64
     requires same { length a.now ≡ length b.now }
     requires few { length a.now ≤ most_terms }
-    requires first { All (Within factor_limit) a.now }
-    requires second { All (Within factor_limit) b.now }
+    requires first { AllByRecursion (Within factor_limit) a.now }
+    requires second { AllByRecursion (Within factor_limit) b.now }
     ensures { result ≡ dot a.now b.now }
 {
     let mut sum = 0;

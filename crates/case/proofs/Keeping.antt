@@ -1,7 +1,7 @@
 -- What is read keeps the limits of a case.
 use Rattle.std.proofs.Common.{◌≡◌, ℕ, zero, suc, ◌+◌, ◌-◌, ◌≤◌, Bool, true, ◌&&◌, eqb, List, [], ◌∷◌, ◌++◌, map, length, get_or, take, drop, replicate, ℤ, pos, neg_ℤ, ◌≤ℤ◌, refl, ◌∙◌, arith}
 use lib.Signed.{le_z}
-use Rattle.std.specs.List.{AllByRecursion as All}
+use Rattle.std.specs.List.{AllByRecursion}
 use Rattle.std.proofs.ByRecursion.{All-append, All-take, All-drop}
 use Rattle.std.proofs.lemmas.List.{length-take}
 use Rattle.std.proofs.lemmas.Bool.{and_from, eq-eqb}
@@ -22,15 +22,15 @@ use Rattle.case.proofs.Lines.{le_z_from}
 abbrev Passes : {X : Type 0} → (X → Bool) → X → Type 0
 Passes ok x = ok x ≡ true
 
-all_replicate : {X : Type 0} (P : X → Type 0) (k : ℕ) (x : X) → P x → All P (replicate k x)
+all_replicate : {X : Type 0} (P : X → Type 0) (k : ℕ) (x : X) → P x → AllByRecursion P (replicate k x)
 all_replicate P zero x h = tt
 all_replicate P (suc k) x h = (h, all_replicate P k x h)
 
-all_filled : {X : Type 0} (P : X → Type 0) (w : ℕ) (x : X) (xs : List X) → P x → All P xs → All P (filled w x xs)
+all_filled : {X : Type 0} (P : X → Type 0) (w : ℕ) (x : X) (xs : List X) → P x → AllByRecursion P xs → AllByRecursion P (filled w x xs)
 all_filled P w x xs h k = All-append P xs (replicate (w - length xs) x) k (all_replicate P (w - length xs) x h)
 
 module _ {X : Type 0} (ok : X → Bool) (test : List X → Bool) (none : test [] ≡ true) (more : (x : X) (xs : List X) → test (x ∷ xs) ≡ (ok x && test xs)) where
-  passes : (xs : List X) → All (Passes ok) xs → test xs ≡ true
+  passes : (xs : List X) → AllByRecursion (Passes ok) xs → test xs ≡ true
   passes [] h = none
   passes (x ∷ xs) h = more x xs ∙ and_from (ok x) (test xs) h.0 (passes xs h.1)
 
@@ -40,7 +40,7 @@ within_from : (m : ℕ) (z : ℤ) → neg_ℤ (pos m) ≤ℤ z → z ≤ℤ pos 
 within_from m z lo hi = and_from (le_z (neg_ℤ (pos m)) z) (le_z z (pos m)) (le_z_from _ _ lo) (le_z_from _ _ hi)
 
 abbrev Entries : List ℤ → Type 0
-Entries zs = All (Passes (within entry_limit)) zs
+Entries zs = AllByRecursion (Passes (within entry_limit)) zs
 
 row_kept : (w : ℕ) (zs : List ℤ) → length zs ≤ w → Entries zs → row_ok w (filled w (pos 0) zs) ≡ true
 row_kept w zs h k =
@@ -99,24 +99,24 @@ module _ (n m p : ℕ) (n_high : n ≤ most_states) (m_high : m ≤ most_inputs)
       (and_from (row_ok most_states (filled most_states (pos 0) (take n d))) _ (part_kept most_states n 0 d n_high e)
       (and_from (row_ok most_inputs (filled most_inputs (pos 0) (take m (drop n d)))) _ (part_kept most_inputs m n d m_high e) (part_kept most_pushes p (n + m) d p_high e)))
 
-  each_equation : (ss ds : List (List ℤ)) → All (RowKept state_limits (State D)) ss → All (RowKept (dynamics_limits w) Nothing) ds
-      → All (Passes equation_ok) (map padded_equation (equations_from n m p ss ds))
+  each_equation : (ss ds : List (List ℤ)) → AllByRecursion (RowKept state_limits (State D)) ss → AllByRecursion (RowKept (dynamics_limits w) Nothing) ds
+      → AllByRecursion (Passes equation_ok) (map padded_equation (equations_from n m p ss ds))
   each_equation [] ds ks kd = tt
   each_equation (s ∷ ss) [] ks kd = tt
   each_equation (s ∷ ss) (d ∷ ds) ks kd = (equation_kept s d ks.0 kd.0, each_equation ss ds ks.1 kd.1)
 
-  each_wide : (ss ds : List (List ℤ)) → All (RowKept state_limits (State D)) ss → All (Passes (is_wide D)) (map padded_equation (equations_from n m p ss ds))
+  each_wide : (ss ds : List (List ℤ)) → AllByRecursion (RowKept state_limits (State D)) ss → AllByRecursion (Passes (is_wide D)) (map padded_equation (equations_from n m p ss ds))
   each_wide [] ds ks = tt
   each_wide (s ∷ ss) [] ks = tt
   each_wide (s ∷ ss) (d ∷ ds) ks = (le_z_from _ _ ks.0.1.1, each_wide ss ds ks.1)
 
-  pub equations_kept : (ss ds : List (List ℤ)) → All (RowKept state_limits (State D)) ss → All (RowKept (dynamics_limits w) Nothing) ds
+  pub equations_kept : (ss ds : List (List ℤ)) → AllByRecursion (RowKept state_limits (State D)) ss → AllByRecursion (RowKept (dynamics_limits w) Nothing) ds
       → all_equations_ok (filled most_states no_equation (map padded_equation (equations_from n m p ss ds))) ≡ true
   equations_kept ss ds ks kd =
       passes equation_ok all_equations_ok refl (λ x xs. refl) _
       (all_filled (Passes equation_ok) most_states no_equation (map padded_equation (equations_from n m p ss ds)) refl (each_equation ss ds ks kd))
 
-  pub wide_kept : (ss ds : List (List ℤ)) → All (RowKept state_limits (State D)) ss → all_wide D (map padded_equation (equations_from n m p ss ds)) ≡ true
+  pub wide_kept : (ss ds : List (List ℤ)) → AllByRecursion (RowKept state_limits (State D)) ss → all_wide D (map padded_equation (equations_from n m p ss ds)) ≡ true
   wide_kept ss ds ks = passes (is_wide D) (all_wide D) refl (λ x xs. refl) _ (each_wide ss ds ks)
 
 -- Pushes and extra faces.
@@ -131,19 +131,19 @@ extra_kept n row h k =
     and_from (row_ok most_states (filled most_states (pos 0) (take n row))) (within extra_limit (get_or row n (pos 0)))
     (row_kept most_states (take n row) (omega (arith, length-take n row)) (entries_front n (around extra_limit ∷ []) row k.0)) (last_kept n extra_limit row k.0)
 
-each_push : (rows : List (List ℤ)) → All (RowKept push_limits Range) rows → All (Passes bounds_ok) (map bounds_from rows)
+each_push : (rows : List (List ℤ)) → AllByRecursion (RowKept push_limits Range) rows → AllByRecursion (Passes bounds_ok) (map bounds_from rows)
 each_push [] k = tt
 each_push (row ∷ rows) k = (push_kept row k.0, each_push rows k.1)
 
-each_extra : (n : ℕ) (rows : List (List ℤ)) → n ≤ most_states → All (RowKept (extra_limits n) Nothing) rows → All (Passes extra_ok) (map padded_extra (map (extra_from n) rows))
+each_extra : (n : ℕ) (rows : List (List ℤ)) → n ≤ most_states → AllByRecursion (RowKept (extra_limits n) Nothing) rows → AllByRecursion (Passes extra_ok) (map padded_extra (map (extra_from n) rows))
 each_extra n [] h k = tt
 each_extra n (row ∷ rows) h k = (extra_kept n row h k.0, each_extra n rows h k.1)
 
-pub bounds_kept : (rows : List (List ℤ)) → All (RowKept push_limits Range) rows → all_bounds_ok (filled most_pushes no_bounds (map bounds_from rows)) ≡ true
+pub bounds_kept : (rows : List (List ℤ)) → AllByRecursion (RowKept push_limits Range) rows → all_bounds_ok (filled most_pushes no_bounds (map bounds_from rows)) ≡ true
 bounds_kept rows k =
     passes bounds_ok all_bounds_ok refl (λ x xs. refl) _ (all_filled (Passes bounds_ok) most_pushes no_bounds (map bounds_from rows) refl (each_push rows k))
 
-pub extras_kept : (n : ℕ) (rows : List (List ℤ)) → n ≤ most_states → All (RowKept (extra_limits n) Nothing) rows
+pub extras_kept : (n : ℕ) (rows : List (List ℤ)) → n ≤ most_states → AllByRecursion (RowKept (extra_limits n) Nothing) rows
     → all_extras_ok (filled most_extras no_extra (map padded_extra (map (extra_from n) rows))) ≡ true
 extras_kept n rows h k =
     passes extra_ok all_extras_ok refl (λ x xs. refl) _

@@ -1,7 +1,7 @@
 -- A section is read exactly when it is rendered.
 use Rattle.std.proofs.Common.{◌≡◌, ℕ, zero, suc, ◌+◌, ◌<◌, ◌≤◌, Bool, true, false, cond, ◌&&◌, leb, List, [], ◌∷◌, length, get_or, ℤ, pos, ◌+ℤ◌, ◌*ℤ◌, ◌≤ℤ◌, Ok, Err, Result, sym, refl, ap, ◌∙◌, arith}
 use lib.Signed.{le_z}
-use Rattle.std.specs.List.{AllByRecursion as All}
+use Rattle.std.specs.List.{AllByRecursion}
 use Rattle.std.proofs.lemmas.Int.{ints}
 use Rattle.std.proofs.lemmas.Bool.{and_parts, and_from, leb-true, le-leb, cond-true}
 use Rattle.arith.proofs.Bounds.{le_z_true}
@@ -72,7 +72,7 @@ module _ (limits : List Limit) (some : 0 < length limits) (judge : Judge) where
       ∙ ap (λ r. bind r (λ _. Ok (row, rest))) (judged_from judge line row k.1)
 
   rows_to : (k line : ℕ) (text : List ℕ) (rows : List (List ℤ)) (rest : List ℕ) → rows_of limits judge k line text ≡ Ok (rows, rest)
-      → (text ≡ rows_before rows rest) × All (RowKept limits judge) rows
+      → (text ≡ rows_before rows rest) × AllByRecursion (RowKept limits judge) rows
   rows_to zero line text rows rest e =
       let q = ok_same ([], text) (rows, rest) e in
       let r : [] ≡ rows = ap (λ t. t.0) q in
@@ -88,7 +88,7 @@ module _ (limits : List Limit) (some : 0 < length limits) (judge : Judge) where
       let s : b.0.1 ≡ rest = ap (λ t. t.1) q in
       rw (← r) (l.0 ∙ ap (line_before (fields_text a.0.0)) (i.0 ∙ ap (rows_before b.0.0) s), (l.1, i.1))
 
-  rows_from : (line : ℕ) (rows : List (List ℤ)) (rest : List ℕ) → All (RowKept limits judge) rows
+  rows_from : (line : ℕ) (rows : List (List ℤ)) (rest : List ℕ) → AllByRecursion (RowKept limits judge) rows
       → rows_of limits judge (length rows) line (rows_before rows rest) ≡ Ok (rows, rest)
   rows_from line [] rest k = refl
   rows_from line (row ∷ rows) rest k =
@@ -98,14 +98,14 @@ module _ (limits : List Limit) (some : 0 < length limits) (judge : Judge) where
   -- Sections.
 
   pub section_to : (names : List ℕ) (k line : ℕ) (text : List ℕ) (rows : List (List ℤ)) (rest : List ℕ) → section_of names limits judge k line text ≡ Ok (rows, rest)
-      → (text ≡ section_before names rows rest) × All (RowKept limits judge) rows × (length rows ≡ k)
+      → (text ≡ section_before names rows rest) × AllByRecursion (RowKept limits judge) rows × (length rows ≡ k)
   section_to names k line text rows rest e =
       let a = bind_ok (as_case (names_line line names text)) (λ t. rows_of limits judge k (line + 1) t) (rows, rest) e in
       let n = names_to line names text a.0 (as_case_ok _ a.0 a.1) in
       let r = rows_to k (line + 1) a.0 rows rest a.2 in
       (n ∙ ap (line_before names) r.0, r.1, rows_length limits judge k (line + 1) a.0 (rows, rest) a.2)
 
-  pub section_from : (names : List ℕ) (line : ℕ) (rows : List (List ℤ)) (rest : List ℕ) → all_above line_feed names ≡ true → All (RowKept limits judge) rows
+  pub section_from : (names : List ℕ) (line : ℕ) (rows : List (List ℤ)) (rest : List ℕ) → all_above line_feed names ≡ true → AllByRecursion (RowKept limits judge) rows
       → section_of names limits judge (length rows) line (section_before names rows rest) ≡ Ok (rows, rest)
   section_from names line rows rest plain k =
       ap (λ r. bind (as_case r) (λ t. rows_of limits judge (length rows) (line + 1) t)) (names_from line names (rows_before rows rest) plain)

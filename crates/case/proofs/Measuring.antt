@@ -1,6 +1,6 @@
 -- The first section of a case text: its sizes.
 use Rattle.std.proofs.Common.{◌≡◌, ℕ, ◌-◌, ◌≤◌, List, [], ◌∷◌, length, get_or, ℤ, pos, negsuc, nat_abs, ◌≤ℤ◌, Ok, Err, Result, sym, refl, ap, ◌∙◌, arith, w64, to_z, of_z}
-use Rattle.std.specs.List.{AllByRecursion as All}
+use Rattle.std.specs.List.{AllByRecursion}
 use Rattle.std.proofs.lemmas.Int.{ints, to_z-of_z}
 use Rattle.arith.proofs.Bounds.{sfits_within}
 use Rattle.control.specs.Limits.{most_states, most_inputs}
@@ -126,7 +126,7 @@ sizes_shown row n m p e f hn hm hp he =
     rw (a, b, c, d, g) refl
 
 -- the only row of the section
-pub only : (rows : List (List ℤ)) → All (RowKept sizes_limits Nothing) rows → length rows ≡ 1 → (rows ≡ get_or rows 0 [] ∷ []) × Fit sizes_limits (get_or rows 0 [])
+pub only : (rows : List (List ℤ)) → AllByRecursion (RowKept sizes_limits Nothing) rows → length rows ≡ 1 → (rows ≡ get_or rows 0 [] ∷ []) × Fit sizes_limits (get_or rows 0 [])
 only [] k l = absurd (omega arith)
 only (row ∷ []) k l = (refl, k.0.0)
 only (row ∷ b ∷ rows) k l = absurd (omega arith)

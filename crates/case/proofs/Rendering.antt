@@ -1,6 +1,6 @@
 -- A case text is read exactly when it is rendered.
 use Rattle.std.proofs.Common.{◌≡◌, ℕ, ◌+◌, ◌*◌, ◌<◌, ◌≤◌, List, [], ◌∷◌, length, get_or, replicate, ℤ, pos, negsuc, nat_abs, ◌≤ℤ◌, Ok, sym, refl, ap, ◌∙◌, subst, arith}
-use Rattle.std.specs.List.{AllByRecursion as All}
+use Rattle.std.specs.List.{AllByRecursion}
 use Rattle.std.proofs.lemmas.List.{length-append, length-replicate}
 use Rattle.std.proofs.lemmas.Int.{ints}
 use Rattle.text.specs.Forms.{Fit}
@@ -98,8 +98,8 @@ module _ (k : Sizes) (a b c d : List (List ℤ)) where
         ∙ ap (λ x. record { states = k.states; inputs = k.inputs; pushes = x; extras = length d; divisor = k.divisor }) lb
         ∙ ap (λ x. record { states = k.states; inputs = k.inputs; pushes = k.pushes; extras = x; divisor = k.divisor }) ld
 
-    made_kept : SizesKept k → All (RowKept state_limits (State k.divisor)) a → All (RowKept push_limits Range) b
-        → All (RowKept (dynamics_limits (k.states + k.inputs + k.pushes)) Nothing) c → All (RowKept (extra_limits k.states) Nothing) d → CaseKept made
+    made_kept : SizesKept k → AllByRecursion (RowKept state_limits (State k.divisor)) a → AllByRecursion (RowKept push_limits Range) b
+        → AllByRecursion (RowKept (dynamics_limits (k.states + k.inputs + k.pushes)) Nothing) c → AllByRecursion (RowKept (extra_limits k.states) Nothing) d → CaseKept made
     made_kept h ka kb kc kd =
         let width : k.states + k.inputs + k.pushes ≡ length a + k.inputs + length b = omega (arith, la, lb) in
         record {
@@ -107,8 +107,8 @@ module _ (k : Sizes) (a b c d : List (List ℤ)) where
           long = lc ∙ sym la;
           each_state = ka;
           each_push = kb;
-          each_dynamics = subst (λ x. All (RowKept (dynamics_limits x) Nothing) c) width kc;
-          each_extra = subst (λ x. All (RowKept (extra_limits x) Nothing) d) (sym la) kd;
+          each_dynamics = subst (λ x. AllByRecursion (RowKept (dynamics_limits x) Nothing) c) width kc;
+          each_extra = subst (λ x. AllByRecursion (RowKept (extra_limits x) Nothing) d) (sym la) kd;
         }
 
 body_is : (k : Sizes) (a b c d : List (List ℤ)) (text : List ℕ) (t : CaseText) (rest proofs : List ℕ) → ◌≡◌ {A = CaseText × List ℕ} (made k a b c d, rest) (t, proofs)

@@ -1,6 +1,6 @@
 -- What a case text stores, and the values of it.
 use Rattle.std.proofs.Common.{◌≡◌, ℕ, suc, ◌+◌, ◌-◌, ◌≤◌, true, List, [], ◌∷◌, ◌++◌, map, length, get_or, take, drop, replicate, ℤ, pos, sym, refl, ap, ◌∙◌, arith}
-use Rattle.std.specs.List.{AllByRecursion as All}
+use Rattle.std.specs.List.{AllByRecursion}
 use Rattle.std.proofs.ByRecursion.{All-weaker}
 use Rattle.std.proofs.lemmas.List.{length-append, length-replicate, length-drop, length-map, length-take-le, take_all, take-append-le, take-map, drop-append-le}
 use Rattle.control.specs.Limits.{most_states, most_inputs}
@@ -56,12 +56,12 @@ extra_padded n row h =
 
 -- What is built of the rows that are held.
 
-front_rows : {Y : Type 0} (P : List ℤ → Type 0) (f : List ℤ → Y) → ((row : List ℤ) → P row → f (padded row) ≡ f row) → (rows xs : List (List ℤ)) → All P rows
+front_rows : {Y : Type 0} (P : List ℤ → Type 0) (f : List ℤ → Y) → ((row : List ℤ) → P row → f (padded row) ≡ f row) → (rows xs : List (List ℤ)) → AllByRecursion P rows
     → take (length rows) (map f (map padded rows ++ xs)) ≡ map f rows
 front_rows P f same [] xs k = refl
 front_rows P f same (row ∷ rows) xs k = ap (λ y. y ∷ take (length rows) (map f (map padded rows ++ xs))) (same row k.0) ∙ ap (λ ys. f row ∷ ys) (front_rows P f same rows xs k.1)
 
-front_equations : (n m p : ℕ) (ss ds xs ys : List (List ℤ)) → length ds ≡ length ss → All (λ d. n + m + p ≤ length d) ds
+front_equations : (n m p : ℕ) (ss ds xs ys : List (List ℤ)) → length ds ≡ length ss → AllByRecursion (λ d. n + m + p ≤ length d) ds
     → take (length ss) (map padded_equation (equations_from n m p (map padded ss ++ xs) (map padded ds ++ ys))) ≡ map padded_equation (equations_from n m p ss ds)
 front_equations n m p [] [] xs ys l k = refl
 front_equations n m p [] (d ∷ ds) xs ys l k = absurd (omega arith)
@@ -97,7 +97,7 @@ equation_back n m p s d h =
     let e = part_back most_pushes p (n + m) d (omega arith) in
     rw (a, b, e) refl
 
-equations_back : (n m p : ℕ) (ss ds : List (List ℤ)) → All (λ d. n + m + p ≤ length d) ds
+equations_back : (n m p : ℕ) (ss ds : List (List ℤ)) → AllByRecursion (λ d. n + m + p ≤ length d) ds
     → map (equation_of n m p) (map padded_equation (equations_from n m p ss ds)) ≡ equations_from n m p ss ds
 equations_back n m p [] ds k = refl
 equations_back n m p (s ∷ ss) [] k = refl
@@ -105,7 +105,7 @@ equations_back n m p (s ∷ ss) (d ∷ ds) k =
     ap (λ e. e ∷ map (equation_of n m p) (map padded_equation (equations_from n m p ss ds))) (equation_back n m p s d k.0)
     ∙ ap (λ t. equation_from n m p s d ∷ t) (equations_back n m p ss ds k.1)
 
-extras_back : (n : ℕ) (rows : List (List ℤ)) → All (λ row. n ≤ length row) rows → map (extra_of n) (map padded_extra (map (extra_from n) rows)) ≡ map (extra_from n) rows
+extras_back : (n : ℕ) (rows : List (List ℤ)) → AllByRecursion (λ row. n ≤ length row) rows → map (extra_of n) (map padded_extra (map (extra_from n) rows)) ≡ map (extra_from n) rows
 extras_back n [] k = refl
 extras_back n (row ∷ rows) k =
     ap (λ c. record { coefficients = c; right = get_or row n (pos 0) } ∷ map (extra_of n) (map padded_extra (map (extra_from n) rows))) (part_back most_states n 0 row (omega (arith, k.0)))
@@ -117,10 +117,10 @@ module _ (t : CaseText) (kept : CaseKept t) (k : Sizes) (sizes : sizes_from t �
   abbrev values : CaseValues
   values = case_values t
 
-  dynamics_all : All (λ d. length t.states + t.inputs + length t.pushes ≤ length d) t.dynamics
+  dynamics_all : AllByRecursion (λ d. length t.states + t.inputs + length t.pushes ≤ length d) t.dynamics
   dynamics_all = All-weaker _ _ (dynamics_long (length t.states + t.inputs + length t.pushes)) t.dynamics kept.each_dynamics
 
-  extras_all : All (λ row. length t.states ≤ length row) t.extras
+  extras_all : AllByRecursion (λ row. length t.states ≤ length row) t.extras
   extras_all = All-weaker _ _ (extra_long (length t.states)) t.extras kept.each_extra
 
   pub count_is : length values.equations ≡ length t.states

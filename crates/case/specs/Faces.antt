@@ -1,6 +1,6 @@
 -- The faces of a case, as rows over the state.
 use Rattle.std.specs.Prelude.{◌≡◌, ℕ, suc, List, [], ◌∷◌, ◌++◌, map, length, replicate, ℤ, pos, negsuc, neg_ℤ, slice_set}
-use Rattle.std.specs.List.{AllByRecursion as All}
+use Rattle.std.specs.List.{AllByRecursion}
 use Rattle.control.specs.Cover.{Holds}
 use Rattle.control.specs.Meaning.{Row}
 use Rattle.case.specs.Values.{CaseValues, state_count}
@@ -28,4 +28,4 @@ faces k = box_faces (state_count k) 0 k.equations ++ map extra_face k.extra
 -- a state is inside when it has a value for each state and every face holds
 pub record Inside (k : CaseValues) (x : List ℤ) : Type 0 where
   pub long : length x ≡ state_count k
-  pub holds : All (Holds x) (faces k)
+  pub holds : AllByRecursion (Holds x) (faces k)

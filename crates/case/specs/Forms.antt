@@ -1,6 +1,6 @@
 -- The form of a case text, said by rendering.
 use Rattle.std.specs.Prelude.{◌≡◌, ℕ, ◌+◌, ◌≤◌, List, [], ◌∷◌, length, ℤ, pos, ◌+ℤ◌, ◌*ℤ◌, ◌≤ℤ◌, Ok, slice_index_or}
-use Rattle.std.specs.List.{AllByRecursion as All}
+use Rattle.std.specs.List.{AllByRecursion}
 use Rattle.control.specs.Limits.{most_states, most_inputs}
 use Rattle.text.specs.Forms.{Iff, Fit}
 use Rattle.text.specs.Lines.{text_limit}
@@ -62,10 +62,10 @@ RowKept limits judge row = Fit limits row × Judged judge row
 pub record CaseKept (t : CaseText) : Type 0 where
   pub sizes : SizesKept (sizes_from t)
   pub long : length t.dynamics ≡ length t.states
-  pub each_state : All (RowKept state_limits (State t.divisor)) t.states
-  pub each_push : All (RowKept push_limits Range) t.pushes
-  pub each_dynamics : All (RowKept (dynamics_limits (length t.states + t.inputs + length t.pushes)) Nothing) t.dynamics
-  pub each_extra : All (RowKept (extra_limits (length t.states)) Nothing) t.extras
+  pub each_state : AllByRecursion (RowKept state_limits (State t.divisor)) t.states
+  pub each_push : AllByRecursion (RowKept push_limits Range) t.pushes
+  pub each_dynamics : AllByRecursion (RowKept (dynamics_limits (length t.states + t.inputs + length t.pushes)) Nothing) t.dynamics
+  pub each_extra : AllByRecursion (RowKept (extra_limits (length t.states)) Nothing) t.extras
 
 -- a text is read as these values, with this proof part, exactly when it is their rendering followed by the proof part, the values keep the limits, and the whole is not too long
 unfoldable pub CaseForm : List ℕ → Type 0

@@ -1,7 +1,7 @@
 -- Sums and multiples of lists, entry by entry: their laws and bounds.
 use Rattle.std.proofs.Common.{◌≡◌, ℕ, zero, suc, ◌+◌, ◌*◌, ◌^◌, ◌<◌, ◌≤◌, List, [], ◌∷◌, length, get_or, ℤ, pos, ◌+ℤ◌, ◌*ℤ◌, refl, ap, ◌∙◌, arith, w64, SFits, to_z, of_z}
 use lib.IntN.{zero-*ℤ, +ℤ_assoc, +ℤ_comm}
-use Rattle.std.specs.List.{AllByRecursion as All}
+use Rattle.std.specs.List.{AllByRecursion}
 use Rattle.std.proofs.ByRecursion.{All-map, All-weaker}
 use Rattle.std.proofs.lemmas.Int.{ints, to_z-of_z}
 use Rattle.arith.specs.Bounds.{Within}
@@ -46,7 +46,7 @@ get_or_added (x ∷ xs) (y ∷ ys) zero l h = refl
 get_or_added (x ∷ xs) (y ∷ ys) (suc i) l h = get_or_added xs ys i (omega arith) (omega arith)
 
 -- bounds
-pub added_within : (m n : ℕ) (xs ys : List ℤ) → All (Within m) xs → All (Within n) ys → All (Within (m + n)) (added xs ys)
+pub added_within : (m n : ℕ) (xs ys : List ℤ) → AllByRecursion (Within m) xs → AllByRecursion (Within n) ys → AllByRecursion (Within (m + n)) (added xs ys)
 added_within m n [] ys v w = tt
 added_within m n (x ∷ xs) [] v w = tt
 added_within m n (x ∷ xs) (y ∷ ys) v w = (
@@ -54,7 +54,7 @@ added_within m n (x ∷ xs) (y ∷ ys) v w = (
   added_within m n xs ys v.1 w.1,
 )
 
-pub scaled_within : (m n : ℕ) (z : ℤ) (xs : List ℤ) → Within m z → All (Within n) xs → All (Within (m * n)) (scaled z xs)
+pub scaled_within : (m n : ℕ) (z : ℤ) (xs : List ℤ) → Within m z → AllByRecursion (Within n) xs → AllByRecursion (Within (m * n)) (scaled z xs)
 scaled_within m n z xs v w = All-map (Within (m * n)) (λ x. z *ℤ x) xs (All-weaker (Within n) (λ x. Within (m * n) (z *ℤ x)) (λ x. product_within m n z x v) xs w)
 
 -- m × x and s + m × x as the code computes them, for numbers within bounds

@@ -1,6 +1,6 @@
 -- The equations of a face, from its row of the system: the face over the state, in the first columns.
 use Rattle.std.proofs.Common.{◌≡◌, ℕ, ◌+◌, ◌-◌, ◌≤◌, Bool, true, false, cond, not, List, ◌++◌, length, take, ℤ, Some, None, Ok, Err, Option, Result, sym, refl, ap, ◌∙◌, subst, arith}
-use Rattle.std.specs.List.{AllByRecursion as All}
+use Rattle.std.specs.List.{AllByRecursion}
 use Rattle.std.proofs.ByRecursion.{All-get_or}
 use Rattle.std.proofs.lemmas.List.{append_assoc, take_at}
 use Rattle.arith.specs.Bounds.{Within}
@@ -54,7 +54,7 @@ module _ {c : Case} {m : Meaning} {region face : ℕ} (t : FaceReady c m region 
       let p = (decides_present (faces k) face).0 t.there in
       All-get_or (λ r. length r.coefficients ≡ state_count k) (faces k) (face - 1) no_row (omega (arith, p.0, p.1)) (faces_wide k (case_wide c)) ∙ states_are c
 
-  pub face_small : All (Within coefficient_limit) (face_of (values_of c) face).coefficients
+  pub face_small : AllByRecursion (Within coefficient_limit) (face_of (values_of c) face).coefficients
   face_small =
       let k = values_of c in
       (all_append_parts (Within coefficient_limit) (face_of k face).coefficients (none (k.inputs + push_count k + state_count k)) face_limits.small).0

@@ -1,7 +1,7 @@
 -- Multipliers that prove a face from rows: where the rows hold, so does the face.
 use Rattle.std.proofs.Common.{◌≡◌, ℕ, zero, suc, ◌+◌, ◌≤◌, List, [], ◌∷◌, ◌++◌, length, ℤ, pos, negsuc, ◌+ℤ◌, ◌*ℤ◌, ◌≤ℤ◌, refl, ap, ◌∙◌, subst, arith}
 use lib.IntN.{zero-*ℤ}
-use Rattle.std.specs.List.{AllByRecursion as All}
+use Rattle.std.specs.List.{AllByRecursion}
 use Rattle.std.proofs.lemmas.List.{append_assoc, length-append, length-map, length-replicate}
 use Rattle.std.proofs.lemmas.Int.{ints, by_lt_z}
 use Rattle.arith.specs.Products.{dot}
@@ -34,7 +34,7 @@ added_short (x ∷ a) [] = omega arith
 added_short (x ∷ a) (y ∷ b) = omega (arith, added_short a b)
 
 -- rows that hold, each multiplied by a number not below 0, hold in their sum
-pub combined : (width : ℕ) (v ms : List ℤ) (rows : List Row) → length v ≤ length (column_sums width ms rows) → All (λ m. pos 0 ≤ℤ m) ms → All (Holds v) rows → dot (column_sums width ms rows) v ≤ℤ right_sum ms rows
+pub combined : (width : ℕ) (v ms : List ℤ) (rows : List Row) → length v ≤ length (column_sums width ms rows) → AllByRecursion (λ m. pos 0 ≤ℤ m) ms → AllByRecursion (Holds v) rows → dot (column_sums width ms rows) v ≤ℤ right_sum ms rows
 combined width v [] rows le low holds = omega (arith, ints, dot_zero width v)
 combined width v (m ∷ ms) [] le low holds = omega (arith, ints, dot_zero width v)
 combined width v (negsuc q ∷ ms) (r ∷ rows) le low holds = absurd (omega (arith, ints, low.0))
@@ -77,7 +77,7 @@ module _ (k : CaseValues) (x u w y : List ℤ) (ex : length x ≡ state_count k)
       subst (λ v. dot (face_over_next k face) v ≡ dot face.coefficients y) regroup (dot_back (state_count k + k.inputs + push_count k) face.coefficients front y long)
 
   -- scale × face is at most the sum of the right sides
-  summed : (rows : List Row) (face : Row) (scale : ℤ) (ms : List ℤ) → length face.coefficients ≡ state_count k → Proves k rows face scale ms → All (Holds (x ++ (u ++ (w ++ y)))) rows → (scale *ℤ dot face.coefficients y) ≤ℤ right_sum ms rows
+  summed : (rows : List Row) (face : Row) (scale : ℤ) (ms : List ℤ) → length face.coefficients ≡ state_count k → Proves k rows face scale ms → AllByRecursion (Holds (x ++ (u ++ (w ++ y)))) rows → (scale *ℤ dot face.coefficients y) ≤ℤ right_sum ms rows
   summed rows face scale ms ef p holds =
       let v = x ++ (u ++ (w ++ y)) in
       let f = face_over_next k face in
@@ -88,7 +88,7 @@ module _ (k : CaseValues) (x u w y : List ℤ) (ex : length x ≡ state_count k)
       subst (λ d. d ≤ℤ right_sum ms rows) total (combined n v ms rows long p.each_low holds)
 
   -- the face holds of the next state: by a scale above 0, or because the rows cannot hold together
-  pub proved_face : (rows : List Row) (face : Row) (scale : ℤ) (ms : List ℤ) → length face.coefficients ≡ state_count k → Proves k rows face scale ms → All (Holds (x ++ (u ++ (w ++ y)))) rows → Holds y face
+  pub proved_face : (rows : List Row) (face : Row) (scale : ℤ) (ms : List ℤ) → length face.coefficients ≡ state_count k → Proves k rows face scale ms → AllByRecursion (Holds (x ++ (u ++ (w ++ y)))) rows → Holds y face
   proved_face rows face (negsuc q) ms ef p holds = absurd (omega (arith, ints, p.scale_low))
   proved_face rows face (pos zero) ms ef p holds =
       absurd (omega (arith, ints, summed rows face (pos zero) ms ef p holds, zero-*ℤ (dot face.coefficients y), p.strict refl))

@@ -1,6 +1,6 @@
 -- The rows of a region's system as the code has them: how many, their limits, and what is given for one of them.
 use Rattle.std.proofs.Common.{◌≡◌, ℕ, ◌-◌, ◌≤◌, true, ◌&&◌, eqb, List, length, take, ℤ, pos, is_ok, Ok, Result, ap, ◌∙◌, arith}
-use Rattle.std.specs.List.{AllByRecursion as All}
+use Rattle.std.specs.List.{AllByRecursion}
 use Rattle.std.proofs.lemmas.List.{length-replicate, take-replicate}
 use Rattle.std.proofs.lemmas.Int.{ints}
 use Rattle.std.proofs.lemmas.Bool.{and_from, cond-true, eq-eqb}
@@ -47,7 +47,7 @@ module _ (c : Case) (m : Meaning) (region : ℕ) (ready : Ready c m region) wher
   system_few limits =
       omega (arith, case_rows c (region_of m region), (region_limits m limits region ready.there).few, c.sizes.1, c.counts.0, c.counts.1)
 
-  pub system_small : Limits m → All (RowLimits (column_count (values_of c))) (system_of (values_of c) m region)
+  pub system_small : Limits m → AllByRecursion (RowLimits (column_count (values_of c))) (system_of (values_of c) m region)
   system_small limits = system_limits c (region_of m region) (rows_limits c m limits ready.states ready.inputs region ready.there)
 
   pub row_answered : (row : ℕ) (list : List ℤ) → 1 ≤ row → row ≤ length (system_of (values_of c) m region) → length list ≡ column_count (values_of c) → system_row_answer (values_of c) m region row list ≡ Ok (system_row_of (values_of c) m region row).right

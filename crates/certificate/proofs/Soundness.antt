@@ -1,6 +1,6 @@
 -- A certificate makes the set of a case invariant.
 use Rattle.std.proofs.Common.{◌≡◌, ℕ, suc, ◌+◌, ◌<◌, List, [], ◌∷◌, map, length, get_or, drop, ℤ, pos, negsuc, sym, refl, ap, ◌∙◌, subst, arith, drop-cons}
-use Rattle.std.specs.List.{AllByRecursion as All}
+use Rattle.std.specs.List.{AllByRecursion}
 use Rattle.std.proofs.ByRecursion.{All-from_get_or, All-get_or, All-weaker}
 use Rattle.std.proofs.lemmas.List.{drop_all}
 use Rattle.std.proofs.lemmas.Int.{ints}
@@ -28,7 +28,7 @@ use Rattle.certificate.proofs.Farkas.{proved_face}
 -- a case whose rows have its lengths, and whose states have bounds in range
 pub record Shaped (k : CaseValues) : Type 0 where
   pub wide : Wide k
-  pub ranges : All (λ s. RangeOk s.low s.high) k.equations
+  pub ranges : AllByRecursion (λ s. RangeOk s.low s.high) k.equations
 
 pub case_shaped : (c : Case) → Shaped (values_of c)
 case_shaped c = record {
@@ -50,8 +50,8 @@ permitted_long D (s ∷ ss) x u w [] h = absurd h
 permitted_long D (s ∷ ss) x u w (z ∷ y) h = ap suc (permitted_long D ss x u w y h.1)
 
 -- a state inside is in range, since the box of the case is
-box_small : (n i : ℕ) (ss : List StateEquation) (x : List ℤ) → i + length ss ≡ n → length x ≡ n → All (λ s. RangeOk s.low s.high) ss → All (Holds x) (box_faces n i ss) → All (Within state_limit) (drop i x)
-box_small n i [] x e ex ok holds = subst (All (Within state_limit)) (sym (drop_all i x (omega arith))) tt
+box_small : (n i : ℕ) (ss : List StateEquation) (x : List ℤ) → i + length ss ≡ n → length x ≡ n → AllByRecursion (λ s. RangeOk s.low s.high) ss → AllByRecursion (Holds x) (box_faces n i ss) → AllByRecursion (Within state_limit) (drop i x)
+box_small n i [] x e ex ok holds = subst (AllByRecursion (Within state_limit)) (sym (drop_all i x (omega arith))) tt
 box_small n i (s ∷ ss) x e ex ok holds =
     let lt : i < length x = omega arith in
     let high = dot_unit n i (pos 1) x (omega arith) ex in
@@ -60,7 +60,7 @@ box_small n i (s ∷ ss) x e ex ok holds =
       omega (arith, ints, low, holds.1.0, ok.0.low_small.0),
       omega (arith, ints, high, holds.0, ok.0.high_small.1),
     ) in
-    subst (All (Within state_limit)) (sym (drop-cons x i (pos 0) lt)) (one, box_small n (suc i) ss x (omega arith) ex ok.1 holds.1.1)
+    subst (AllByRecursion (Within state_limit)) (sym (drop-cons x i (pos 0) lt)) (one, box_small n (suc i) ss x (omega arith) ex ok.1 holds.1.1)
 
 pub inside_state : (k : CaseValues) (x : List ℤ) → Shaped k → Inside k x → State (state_count k) x
 inside_state k x shape inside =
@@ -71,7 +71,7 @@ inside_state k x shape inside =
     }
 
 -- the rows of a controller's region have a coefficient for each state and each input
-region_wide : (m : Meaning) (r : ℕ) → Limits m → r < length m.regions → All (λ row. length row.coefficients ≡ m.states + m.inputs) (get_or m.regions r [])
+region_wide : (m : Meaning) (r : ℕ) → Limits m → r < length m.regions → AllByRecursion (λ row. length row.coefficients ≡ m.states + m.inputs) (get_or m.regions r [])
 region_wide m r limits lt =
     let width = m.states + m.inputs in
     let rows = get_or m.regions r [] in
@@ -79,7 +79,7 @@ region_wide m r limits lt =
     (All-get_or (RegionLimits width) m.regions r [] lt limits.each).each
 
 -- in each region that covers the state, all rows of the system hold
-solved : (k : CaseValues) (region : List Row) (x u w y : List ℤ) → Wide k → All (λ row. length row.coefficients ≡ state_count k + k.inputs) region → length u ≡ k.inputs → length w ≡ push_count k → length y ≡ state_count k → Step k region x u w y → Solves k region x u w y
+solved : (k : CaseValues) (region : List Row) (x u w y : List ℤ) → Wide k → AllByRecursion (λ row. length row.coefficients ≡ state_count k + k.inputs) region → length u ≡ k.inputs → length w ≡ push_count k → length y ≡ state_count k → Step k region x u w y → Solves k region x u w y
 unfolding Bridge
 solved k region x u w y wide narrow eu ew ey step = (bridge k region wide narrow x u w y step.inside.long eu ew ey).0 step
 
@@ -91,7 +91,7 @@ sound k m shape limits cover es ei certified x w y inside bounded permitted =
     let r = covered.0 in
     let region = get_or m.regions r [] in
     let width : m.states + m.inputs ≡ state_count k + k.inputs = omega arith in
-    let narrow = subst (λ n. All (λ row. length row.coefficients ≡ n) region) width (region_wide m r limits covered.1) in
+    let narrow = subst (λ n. AllByRecursion (λ row. length row.coefficients ≡ n) region) width (region_wide m r limits covered.1) in
     let eu = limits.command_long x state ∙ ei in
     let ew = bounded_long k.bounds w bounded in
     let ey = permitted_long k.divisor k.equations x u w y permitted in

@@ -1,7 +1,7 @@
 -- The test of a proof of one face decides whether its scale and multipliers stand.
 use Rattle.std.proofs.Common.{◌≡◌, ℕ, ◌+◌, ◌-◌, ◌<◌, ◌≤◌, Bool, true, false, cond, not, ◌&&◌, eqb, ltb, List, [], ◌∷◌, length, get_or, drop, ℤ, pos, negsuc, ◌*ℤ◌, ◌≤ℤ◌, Some, None, Ok, Err, Decides, Option, Result, sym, refl, ap, ◌∙◌, arith}
 use lib.Signed.{le_z, lt_z}
-use Rattle.std.specs.List.{AllByRecursion as All}
+use Rattle.std.specs.List.{AllByRecursion}
 use Rattle.std.proofs.ByRecursion.{All-weaker, Decides-by_and}
 use Rattle.std.proofs.lemmas.List.{at_drop_all, at_drop_more}
 use Rattle.std.proofs.lemmas.Int.{ints}
@@ -52,10 +52,10 @@ Limited z = (pos 0 ≤ℤ z) × (z ≤ℤ pos multiplier_limit)
 pub decides_in_limit : (z : ℤ) → Decides (in_limit z) (Limited z)
 decides_in_limit z = Decides-and (le_z (pos 0) z) (le_z z (pos multiplier_limit)) (decides_le_z (pos 0) z) (decides_le_z z (pos multiplier_limit))
 
-pub decides_all_in_limit : (zs : List ℤ) → Decides (all_in_limit zs) (All Limited zs)
+pub decides_all_in_limit : (zs : List ℤ) → Decides (all_in_limit zs) (AllByRecursion Limited zs)
 decides_all_in_limit zs = Decides-by_and in_limit Limited all_in_limit decides_in_limit refl (λ _ _. refl) zs
 
-all_limited : (zs : List ℤ) → All (λ z. pos 0 ≤ℤ z) zs → All (λ z. z ≤ℤ pos multiplier_limit) zs → All Limited zs
+all_limited : (zs : List ℤ) → AllByRecursion (λ z. pos 0 ≤ℤ z) zs → AllByRecursion (λ z. z ≤ℤ pos multiplier_limit) zs → AllByRecursion Limited zs
 all_limited [] low high = tt
 all_limited (z ∷ zs) low high = ((low.0, high.0), all_limited zs low.1 high.1)
 
@@ -108,7 +108,7 @@ excess_by sum scale right true out low = sym (ap not (decides_false (low_enough 
 excess_by sum scale right false out low = sym (ap not ((decides_low sum scale right).1 (low refl)))
 
 -- the equations, for as many multipliers as rows and no number below 0
-pub equations_decided : (k : CaseValues) (rows : List Row) (face : Row) (scale : ℤ) (ms : List ℤ) → length ms ≡ length rows → pos 0 ≤ℤ scale → All (λ m. pos 0 ≤ℤ m) ms → Same (equations_of k rows face scale ms ≡ Ok tt) (Proves k rows face scale ms)
+pub equations_decided : (k : CaseValues) (rows : List Row) (face : Row) (scale : ℤ) (ms : List ℤ) → length ms ≡ length rows → pos 0 ≤ℤ scale → AllByRecursion (λ m. pos 0 ≤ℤ m) ms → Same (equations_of k rows face scale ms ≡ Ok tt) (Proves k rows face scale ms)
 equations_decided k rows face scale ms long low each =
     let sums = column_sums (column_count k) ms rows in
     let wanted = scaled scale (face_over_next k face) in
@@ -147,7 +147,7 @@ proof_form k m region face scale ms =
     let places = Decides-and (present m.regions region) (present (faces k) face) (decides_present m.regions region) (decides_present (faces k) face) in
     let count = Decides-eqb (length ms) (length rows) in
     let numbers = Decides-and (in_limit scale) (all_in_limit ms) (decides_in_limit scale) (decides_all_in_limit ms) in
-    let lows = λ (all : All Limited ms). All-weaker Limited (λ z. pos 0 ≤ℤ z) (λ z h. h.0) ms all in (
+    let lows = λ (all : AllByRecursion Limited ms). All-weaker Limited (λ z. pos 0 ≤ℤ z) (λ z h. h.0) ms all in (
       (λ e.
           let a = sizes_pass.0 e in
           let b = there-pass.0 a.1 in
@@ -187,7 +187,7 @@ decides_all_same (x ∷ xs) (y ∷ ys) =
     (Decides-and (same x y) (all_same xs ys) (decides_same x y) (decides_all_same xs ys))
 
 -- for as many multipliers as rows, and no number below 0
-pub proves_decided : (k : CaseValues) (rows : List Row) (face : Row) (scale : ℤ) (multipliers : List ℤ) → length multipliers ≡ length rows → pos 0 ≤ℤ scale → All (λ m. pos 0 ≤ℤ m) multipliers → Decides (proves_test k rows face scale multipliers) (Proves k rows face scale multipliers)
+pub proves_decided : (k : CaseValues) (rows : List Row) (face : Row) (scale : ℤ) (multipliers : List ℤ) → length multipliers ≡ length rows → pos 0 ≤ℤ scale → AllByRecursion (λ m. pos 0 ≤ℤ m) multipliers → Decides (proves_test k rows face scale multipliers) (Proves k rows face scale multipliers)
 proves_decided k rows face scale multipliers long low each =
     let sums = column_sums (column_count k) multipliers rows in
     let wanted = scaled scale (face_over_next k face) in

@@ -1,7 +1,7 @@
 -- The turns of the loop that adds up the rows of a proof.
 use Rattle.std.proofs.Common.{◌≡◌, ℕ, ◌+◌, ◌-◌, ◌*◌, ◌<◌, ◌≤◌, true, List, [], ◌∷◌, length, get_or, drop, ℤ, pos, ◌+ℤ◌, ◌*ℤ◌, is_ok, Result, sym, ap, ◌∙◌, subst, arith, lit<, w64, to_z, of_z}
 use lib.IntN.{zero-*ℤ}
-use Rattle.std.specs.List.{AllByRecursion as All}
+use Rattle.std.specs.List.{AllByRecursion}
 use Rattle.std.proofs.ByRecursion.{All-get_or}
 use Rattle.std.proofs.lemmas.List.{at_drop_all, drop_more, length-map, length-replicate}
 use Rattle.std.proofs.lemmas.Int.{ints, to_z-of_z}
@@ -33,21 +33,21 @@ pub record Summed (width : ℕ) (ms : List ℤ) (rows : List Row) (i : ℕ) (sum
   pub long : length sums ≡ width
   pub columns : added sums (column_sums width (drop i ms) (drop i rows)) ≡ column_sums width ms rows
   pub rights : sum +ℤ right_sum (drop i ms) (drop i rows) ≡ right_sum ms rows
-  pub small : All (Within (i * term_limit)) sums
+  pub small : AllByRecursion (Within (i * term_limit)) sums
   pub right_small : Within (i * right_term_limit) sum
 
 -- the same sums
 pub summed_same : (width : ℕ) (ms : List ℤ) (rows : List Row) (i : ℕ) (sums sums' : List ℤ) (sum sum' : ℤ) → sums' ≡ sums → sum' ≡ sum → Summed width ms rows i sums sum → Summed width ms rows i sums' sum'
 summed_same width ms rows i sums sums' sum sum' e f s = subst (λ l. Summed width ms rows i l sum') (sym e) (subst (Summed width ms rows i sums) (sym f) s)
 
-pub column_sums_long : (width : ℕ) (ms : List ℤ) (rows : List Row) → All (RowLimits width) rows → length (column_sums width ms rows) ≡ width
+pub column_sums_long : (width : ℕ) (ms : List ℤ) (rows : List Row) → AllByRecursion (RowLimits width) rows → length (column_sums width ms rows) ≡ width
 column_sums_long width [] rows l = length-replicate width (pos 0)
 column_sums_long width (m ∷ ms) [] l = length-replicate width (pos 0)
 column_sums_long width (m ∷ ms) (r ∷ rows) l =
     let one : length (scaled m r.coefficients) ≡ width = length-map r.coefficients (λ z. m *ℤ z) ∙ l.0.wide in
     length_added (scaled m r.coefficients) (column_sums width ms rows) (one ∙ sym (column_sums_long width ms rows l.1)) ∙ one
 
-pub summed_none : (width : ℕ) (ms : List ℤ) (rows : List Row) → All (RowLimits width) rows → Summed width ms rows 0 (none width) (pos 0)
+pub summed_none : (width : ℕ) (ms : List ℤ) (rows : List Row) → AllByRecursion (RowLimits width) rows → Summed width ms rows 0 (none width) (pos 0)
 summed_none width ms rows l =
     let all = column_sums width ms rows in
     record {
@@ -81,7 +81,7 @@ module _ (width : ℕ) (ms : List ℤ) (rows : List Row) (i : ℕ) (sums : List 
         long = length_added sums term (before.long ∙ sym wide) ∙ before.long;
         columns = added_assoc sums term (column_sums width (drop (i + 1) ms) (drop (i + 1) rows)) ∙ ap (added sums) (sym (columns_left width ms rows i lt lr)) ∙ before.columns;
         rights = omega (arith, ints, before.rights, rights_left ms rows i lt lr);
-        small = subst (λ n. All (Within n) (added sums term)) next (added_within (i * term_limit) term_limit sums term before.small (scaled_within multiplier_limit coefficient_limit m r.coefficients limit row.small));
+        small = subst (λ n. AllByRecursion (Within n) (added sums term)) next (added_within (i * term_limit) term_limit sums term before.small (scaled_within multiplier_limit coefficient_limit m r.coefficients limit row.small));
         right_small = (omega (arith, ints, p.0, before.right_small.0), omega (arith, ints, p.1, before.right_small.1));
       }
 
@@ -124,7 +124,7 @@ module _ {c : Case} {m : Meaning} {region : ℕ} {ms : List ℤ} {i : ℕ} {sums
   pub multiplier_within : Within multiplier_limit (to_z w64 (of_z w64 (get_or ms i (pos 0))))
   multiplier_within = subst (Within multiplier_limit) (sym multiplier_read) multiplier_small
 
-  pub sums_within : All (Within (most_system_rows * term_limit)) sums
+  pub sums_within : AllByRecursion (Within (most_system_rows * term_limit)) sums
   sums_within = all_wider (i * term_limit) (most_system_rows * term_limit) (omega (arith, system_few c m region t.ready t.limits)) sums t.before.small
 
   -- a multiplier of 0
@@ -149,7 +149,7 @@ module _ {c : Case} {m : Meaning} {region : ℕ} {ms : List ℤ} {i : ℕ} {sums
     pub turn_row : RowLimits (column_count (values_of c)) (record { coefficients = coefficients; right = right })
     turn_row = record {
       wide = ap length coefficients_are ∙ row_small.wide;
-      small = subst (All (Within coefficient_limit)) (sym coefficients_are) row_small.small;
+      small = subst (AllByRecursion (Within coefficient_limit)) (sym coefficients_are) row_small.small;
       right_small = subst (Within right_limit) (sym right_is) row_small.right_small;
     }
 

@@ -1,6 +1,6 @@
 -- Certificates after Farkas: multipliers that derive a face of the next state from the rows of a region's system.
 use Rattle.std.specs.Prelude.{◌≡◌, ℕ, ◌+◌, ◌<◌, List, [], ◌∷◌, ◌++◌, map, length, ℤ, pos, negsuc, ◌+ℤ◌, ◌*ℤ◌, ◌≤ℤ◌, slice_index_or}
-use Rattle.std.specs.List.{AllByRecursion as All}
+use Rattle.std.specs.List.{AllByRecursion}
 use Rattle.control.specs.Answers.{no_row}
 use Rattle.control.specs.Meaning.{Row, Meaning}
 use Rattle.case.specs.Faces.{faces, Inside}
@@ -37,7 +37,7 @@ face_over_next k face = none (state_count k + k.inputs + push_count k) ++ face.c
 pub record Proves (k : CaseValues) (rows : List Row) (face : Row) (scale : ℤ) (multipliers : List ℤ) : Type 0 where
   pub long : length multipliers ≡ length rows
   pub scale_low : pos 0 ≤ℤ scale
-  pub each_low : All (λ m. pos 0 ≤ℤ m) multipliers
+  pub each_low : AllByRecursion (λ m. pos 0 ≤ℤ m) multipliers
   pub columns : column_sums (column_count k) multipliers rows ≡ scaled scale (face_over_next k face)
   pub right : right_sum multipliers rows ≤ℤ (scale *ℤ face.right)
   pub strict : scale ≡ pos 0 → right_sum multipliers rows ≤ℤ negsuc 0

@@ -1,6 +1,6 @@
 -- The test of a proof of one face.
 use Rattle.std.specs.Prelude.{◌≡◌, ℕ, ◌+◌, ◌-◌, ◌≤◌, Bool, true, false, cond, ◌&&◌, List, [], ◌∷◌, length, ℤ, pos, negsuc, ◌*ℤ◌, ◌≤ℤ◌, Some, None, Ok, Err, Option, Result, ◌==◌, int_le, slice_index_or}
-use Rattle.std.specs.List.{AllByRecursion as All}
+use Rattle.std.specs.List.{AllByRecursion}
 use Rattle.control.specs.Answers.{present, no_row}
 use Rattle.control.specs.Meaning.{Row, Meaning}
 use Rattle.case.specs.Faces.{faces}
@@ -90,7 +90,7 @@ pub record Stands (k : CaseValues) (m : Meaning) (region face : ℕ) (scale : �
   pub face_low : 1 ≤ face
   pub face_high : face ≤ length (faces k)
   pub scale_high : scale ≤ℤ pos multiplier_limit
-  pub each_high : All (λ z. z ≤ℤ pos multiplier_limit) multipliers
+  pub each_high : AllByRecursion (λ z. z ≤ℤ pos multiplier_limit) multipliers
   pub proves : Proves k (system_of k m region) (face_of k face) scale multipliers
 
 -- the test passes exactly when scale and multipliers stand

@@ -1,6 +1,6 @@
 // The test of a proof of one face: limits, columns and the right side.
 ghost use Rattle.std.specs.Prelude.{◌≡◌, ◌+◌, ◌<◌, ◌≤◌, true, not, ◌++◌, length, pos, slice_index_or};
-ghost use Rattle.std.specs.List.{AllByRecursion as All};
+ghost use Rattle.std.specs.List.{AllByRecursion};
 ghost use Rattle.arith.specs.Bounds.{Within};
 ghost use Rattle.control.specs.Answers.{present};
 ghost use Rattle.control.specs.Limits.{coefficient_limit, right_limit};
@@ -44,7 +44,7 @@ fn all_in_limit(values: &[i64]) -> bool
 fn wanted(width: usize, scale: i64, face: &[i64], j: usize) -> i64
     requires place { j < width + length face.now }
     requires scale { Within multiplier_limit scale }
-    requires small { All (Within coefficient_limit) face.now }
+    requires small { AllByRecursion (Within coefficient_limit) face.now }
     ensures value { result ≡ slice_index_or (scaled scale (none width ++ face.now)) j (pos 0) }
 {
     if j < width {
@@ -58,7 +58,7 @@ fn first_unequal(sums: &[i64], width: usize, scale: i64, face: &[i64]) -> Option
     requires long { length sums.now ≡ width + length face.now }
     requires few { length sums.now ≤ most_columns }
     requires scale { Within multiplier_limit scale }
-    requires small { All (Within coefficient_limit) face.now }
+    requires small { AllByRecursion (Within coefficient_limit) face.now }
     ensures value { result ≡ first_unequal 1 sums.now (scaled scale (none width ++ face.now)) }
 {
     for j in 0..sums.len() {

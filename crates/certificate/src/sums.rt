@@ -1,6 +1,6 @@
 // The sums of a proof: multiplier × row over the rows of a region's system.
 ghost use Rattle.std.specs.Prelude.{◌≡◌, ◌*◌, true, length};
-ghost use Rattle.std.specs.List.{AllByRecursion as All};
+ghost use Rattle.std.specs.List.{AllByRecursion};
 ghost use Rattle.arith.specs.Bounds.{Within};
 ghost use Rattle.control.specs.Answers.{present};
 ghost use Rattle.control.specs.Limits.{coefficient_limit};
@@ -19,8 +19,8 @@ use system::system_row;
 fn add_scaled(m: i64, coefficients: &[i64], sums: &mut [i64])
     requires same { length coefficients.now ≡ length sums.old }
     requires multiplier { Within multiplier_limit m }
-    requires small { All (Within coefficient_limit) coefficients.now }
-    requires room { All (Within (most_system_rows * (multiplier_limit * coefficient_limit))) sums.old }
+    requires small { AllByRecursion (Within coefficient_limit) coefficients.now }
+    requires room { AllByRecursion (Within (most_system_rows * (multiplier_limit * coefficient_limit))) sums.old }
     ensures value { sums.new ≡ added sums.old (scaled m coefficients.now) }
 {
     for i in 0..sums.len() {

@@ -1,7 +1,7 @@
 -- Check accepts exactly the text of a certificate.
 use Rattle.std.proofs.Common.{◌≡◌, ℕ, zero, suc, ◌+◌, ◌-◌, ◌<◌, ◌≤◌, Bool, true, false, cond, ◌&&◌, ◌||◌, eqb, ltb, List, [], ◌∷◌, map, length, get_or, drop, replicate, ℤ, pos, negsuc, nat_abs, ◌≤ℤ◌, Some, None, Ok, Err, Option, Result, sym, refl, ap, ◌∙◌, subst, arith}
 use lib.Signed.{le_z}
-use Rattle.std.specs.List.{range_with_len, AllByRecursion as All}
+use Rattle.std.specs.List.{range_with_len, AllByRecursion}
 use Rattle.std.proofs.lemmas.List.FromFn.{length-range_with_len, get_or-range_with_len}
 use Rattle.std.proofs.ByRecursion.{All-get_or, All-from_get_or, All-weaker}
 use Rattle.std.proofs.lemmas.List.{length-replicate}
@@ -23,10 +23,10 @@ use Rattle.certificate.specs.Tests.{multiplier_limit, in_limit, all_in_limit, fa
 use Rattle.certificate.specs.declared.fault.ProofFault.{ProofFault}
 use Rattle.certificate.proofs.Tested.{decides_le_z}
 use Rattle.certificate.proofs.Tested.{proof_form}
-use Rattle.checking.specs.Checking.{ProofLine, pair, names, as_check, as_index, up_to, region_field, face_field, unnamed, proof_limit, proof_limits, number_fields, proof_line, proved_at, equations_at, line_of, absent_face, unless_absent, all_named, complete, text_lines, lines_check, text_check, check_of}
+use Rattle.checking.specs.Checking.{ProofLine, pair, names, as_check, as_index, up_to, region_field, face_field, unnamed, proof_limit, proof_limits, number_fields, proof_line, proved_at, equations_at, line_of, absent_face, unless_absent, all_named, complete, text_lines, lines_check, text_check, is_measured, check_of}
 use Rattle.checking.specs.Forms.{proof_numbers, proofs_text, Apart, Certificate, CheckForm}
 use Rattle.checking.specs.declared.faults.CheckFault.{CheckFault}
-use Rattle.checking.specs.declared.faults.CheckFault.TheVariants.{Sizes, Repeated}
+use Rattle.checking.specs.declared.faults.CheckFault.TheVariants.{Text, Sizes, Repeated}
 use Rattle.checking.proofs.Lining.{rows_lines, text_of_lines, lines_rows}
 
 -- What an Ok came from.
@@ -56,13 +56,13 @@ unnamed_ok before line region face u e = by_test (names before region face) refl
 abbrev In : Limit → ℤ → Type 0
 In l z = (l.low ≤ℤ z) × (z ≤ℤ l.high)
 
-fit_all : (n : ℕ) (l : Limit) (zs : List ℤ) → Fit (replicate n l) zs → All (In l) zs
+fit_all : (n : ℕ) (l : Limit) (zs : List ℤ) → Fit (replicate n l) zs → AllByRecursion (In l) zs
 fit_all zero l [] h = tt
 fit_all zero l (z ∷ zs) h = absurd h
 fit_all (suc n) l [] h = absurd h
 fit_all (suc n) l (z ∷ zs) h = ((h.0, h.1), fit_all n l zs h.2)
 
-all_fit : (n : ℕ) (l : Limit) (zs : List ℤ) → length zs ≡ n → All (In l) zs → Fit (replicate n l) zs
+all_fit : (n : ℕ) (l : Limit) (zs : List ℤ) → length zs ≡ n → AllByRecursion (In l) zs → Fit (replicate n l) zs
 all_fit zero l [] e h = tt
 all_fit zero l (z ∷ zs) e h = absurd (omega arith)
 all_fit (suc n) l [] e h = absurd (omega arith)
@@ -100,17 +100,17 @@ in_limit_at : (z : ℤ) → In proof_limit z → in_limit z ≡ true
 in_limit_at z h =
     and_from (le_z (pos 0) z) (le_z z (pos multiplier_limit)) ((decides_le_z (pos 0) z).1 h.0) ((decides_le_z z (pos multiplier_limit)).1 h.1)
 
-all_in_limit_at : (zs : List ℤ) → All (In proof_limit) zs → all_in_limit zs ≡ true
+all_in_limit_at : (zs : List ℤ) → AllByRecursion (In proof_limit) zs → all_in_limit zs ≡ true
 all_in_limit_at [] h = refl
 all_in_limit_at (z ∷ zs) h = and_from (in_limit z) (all_in_limit zs) (in_limit_at z h.0) (all_in_limit_at zs h.1)
 
 -- What holds of each element.
 
-all_both : {X : Type 0} (P Q : X → Type 0) (xs : List X) → All P xs → All Q xs → All (λ x. P x × Q x) xs
+all_both : {X : Type 0} (P Q : X → Type 0) (xs : List X) → AllByRecursion P xs → AllByRecursion Q xs → AllByRecursion (λ x. P x × Q x) xs
 all_both P Q [] p q = tt
 all_both P Q (x ∷ xs) p q = ((p.0, q.0), all_both P Q xs p.1 q.1)
 
-all_any : {X : Type 0} {P : X → Type 0} → ((x : X) → P x) → (xs : List X) → All P xs
+all_any : {X : Type 0} {P : X → Type 0} → ((x : X) → P x) → (xs : List X) → AllByRecursion P xs
 all_any h [] = tt
 all_any h (x ∷ xs) = (h x, all_any h xs)
 
@@ -120,13 +120,13 @@ absent_more : (t : Bool) (o : Option ℕ) (f : ℕ) → cond t o (Some f) ≡ No
 absent_more true o f e = (refl, e)
 absent_more false o f e = grind arith
 
-absent_to : (ls : List ProofLine) (region : ℕ) (fs : List ℕ) → absent_face ls region fs ≡ None → All (λ f. names ls region f ≡ true) fs
+absent_to : (ls : List ProofLine) (region : ℕ) (fs : List ℕ) → absent_face ls region fs ≡ None → AllByRecursion (λ f. names ls region f ≡ true) fs
 absent_to ls region [] e = tt
 absent_to ls region (f ∷ fs) e =
     let p = absent_more (names ls region f) (absent_face ls region fs) f e in
     (p.0, absent_to ls region fs p.1)
 
-absent_from : (ls : List ProofLine) (region : ℕ) (fs : List ℕ) → All (λ f. names ls region f ≡ true) fs → absent_face ls region fs ≡ None
+absent_from : (ls : List ProofLine) (region : ℕ) (fs : List ℕ) → AllByRecursion (λ f. names ls region f ≡ true) fs → absent_face ls region fs ≡ None
 absent_from ls region [] h = refl
 absent_from ls region (f ∷ fs) h = cond-true (names ls region f) _ _ h.0 ∙ absent_from ls region fs h.1
 
@@ -134,22 +134,22 @@ unless_ok : (region : ℕ) (o : Option ℕ) (r : Result (Unit {0}) CheckFault) �
 unless_ok region None r e = (refl, e)
 unless_ok region (Some f) r e = grind arith
 
-named_to : (ls : List ProofLine) (rs fs : List ℕ) → all_named ls rs fs ≡ Ok tt → All (λ r. All (λ f. names ls r f ≡ true) fs) rs
+named_to : (ls : List ProofLine) (rs fs : List ℕ) → all_named ls rs fs ≡ Ok tt → AllByRecursion (λ r. AllByRecursion (λ f. names ls r f ≡ true) fs) rs
 named_to ls [] fs e = tt
 named_to ls (r ∷ rs) fs e =
     let p = unless_ok r (absent_face ls r fs) (all_named ls rs fs) e in
     (absent_to ls r fs p.0, named_to ls rs fs p.1)
 
-named_from : (ls : List ProofLine) (rs fs : List ℕ) → All (λ r. All (λ f. names ls r f ≡ true) fs) rs → all_named ls rs fs ≡ Ok tt
+named_from : (ls : List ProofLine) (rs fs : List ℕ) → AllByRecursion (λ r. AllByRecursion (λ f. names ls r f ≡ true) fs) rs → all_named ls rs fs ≡ Ok tt
 named_from ls [] fs h = refl
 named_from ls (r ∷ rs) fs h = ap (λ o. unless_absent r o (all_named ls rs fs)) (absent_from ls r fs h.0) ∙ named_from ls rs fs h.1
 
-counting_to : (P : ℕ → Type 0) (a n : ℕ) → All P (range_with_len a n) → (i : ℕ) → a ≤ i → i < a + n → P i
+counting_to : (P : ℕ → Type 0) (a n : ℕ) → AllByRecursion P (range_with_len a n) → (i : ℕ) → a ≤ i → i < a + n → P i
 counting_to P a n h i low high =
     let j : i - a < n = omega arith in
     subst P (get_or-range_with_len a n (i - a) 0 j ∙ omega arith) (All-get_or P (range_with_len a n) (i - a) 0 (omega (arith, length-range_with_len a n)) h)
 
-counting_from : (P : ℕ → Type 0) (a n : ℕ) → ((i : ℕ) → a ≤ i → i < a + n → P i) → All P (range_with_len a n)
+counting_from : (P : ℕ → Type 0) (a n : ℕ) → ((i : ℕ) → a ≤ i → i < a + n → P i) → AllByRecursion P (range_with_len a n)
 counting_from P a n h =
     All-from_get_or P (range_with_len a n) 0 (λ i lt.
     let j : i < n = omega (arith, length-range_with_len a n) in
@@ -192,9 +192,9 @@ Every k m named =
 
 -- lines behind others: each stands, no two name the same pair, none names a pair of those before, and together with those before they name every pair
 pub record Behind (k : CaseValues) (m : Meaning) (before ls : List ProofLine) : Type 0 where
-  pub each : All (Standing k m) ls
+  pub each : AllByRecursion (Standing k m) ls
   pub apart : Apart ls
-  pub fresh : All (λ l. names before l.region l.face ≡ false) ls
+  pub fresh : AllByRecursion (λ l. names before l.region l.face ≡ false) ls
   pub every : Every k m (λ region face. names ls region face || names before region face)
 
 module _ (k : CaseValues) (m : Meaning) where
@@ -301,14 +301,14 @@ module _ (k : CaseValues) (m : Meaning) where
   abbrev face_left : List ProofLine → ℕ → List ℕ → ℕ → Result ProofLine CheckFault
   face_left before line bytes region = bind (face_field k line bytes) (name_left before line bytes region)
 
-  -- All pairs and all lines.
+  -- AllByRecursion pairs and all lines.
 
   -- no pair is absent: every pair is named
   pub complete_to : (ls : List ProofLine) → complete k m ls ≡ Ok tt → Every k m (names ls)
   complete_to ls e region face rl rh fl fh =
       let fs = range_with_len 1 (length (faces k)) in
       let all = named_to ls (range_with_len 1 (length m.regions)) fs e in
-      let of-region = counting_to (λ r. All (λ f. names ls r f ≡ true) fs) 1 (length m.regions) all region rl (omega arith) in
+      let of-region = counting_to (λ r. AllByRecursion (λ f. names ls r f ≡ true) fs) 1 (length m.regions) all region rl (omega arith) in
       counting_to (λ f. names ls region f ≡ true) 1 (length (faces k)) of-region face fl (omega arith)
 
   -- and back
@@ -316,7 +316,7 @@ module _ (k : CaseValues) (m : Meaning) where
   complete_from ls h =
       let fs = range_with_len 1 (length (faces k)) in
       named_from ls (range_with_len 1 (length m.regions)) fs
-      (counting_from (λ r. All (λ f. names ls r f ≡ true) fs) 1 (length m.regions) (λ region rl rh.
+      (counting_from (λ r. AllByRecursion (λ f. names ls r f ≡ true) fs) 1 (length m.regions) (λ region rl rh.
       counting_from (λ f. names ls region f ≡ true) 1 (length (faces k)) (λ face fl fh. h region face rl (omega arith) fl (omega arith))))
 
   -- a line goes over from those behind to those before
@@ -389,7 +389,7 @@ module _ (k : CaseValues) (m : Meaning) where
       ∙ bind_at (number_fields k m l.region line bytes) (λ zs. equations_left line (proof_line l.region l.face zs)) (l.scale ∷ l.multipliers) t.2
       ∙ bind_at (equations_at k m line l) (λ _. Ok l) tt (stands_from line l s)
 
-  -- All lines.
+  -- AllByRecursion lines.
 
   -- the lines are accepted: they are renderings, and nothing stands behind them
   pub lines_to : fits k m ≡ true → (before : List ProofLine) (line : ℕ) (ls : List (List ℕ)) (rest : List ℕ) → lines_check k m before line ls rest ≡ Ok tt
@@ -432,16 +432,19 @@ module _ (k : CaseValues) (m : Meaning) where
         },
       )
 
-  check_to : (line : ℕ) (proofs : List ℕ) → check_of k m line proofs ≡ Ok tt → (ls : List ProofLine) × (proofs ≡ proofs_text ls) × Certificate k m ls
-  check_to line proofs q = by_test (fits k m) refl q
+  check_to : (line : ℕ) (proofs : List ℕ) → check_of k m line proofs ≡ Ok tt → (ls : List ProofLine) × (proofs ≡ proofs_text ls) × Certificate k m ls × (is_measured line proofs ≡ true)
+  check_to line proofs q = by_test (fits k m) (is_measured line proofs) refl refl q
     where
-      by_test : (t : Bool) → fits k m ≡ t → cond t (text_check k m [] line proofs) (Err Sizes) ≡ Ok tt → (ls : List ProofLine) × (proofs ≡ proofs_text ls) × Certificate k m ls
-      by_test true t p = text_to line proofs t p
-      by_test false t p = let z : ◌≡◌ {A = ℕ} 0 1 = grind arith in absurd (omega arith)
+      by_test : (t u : Bool) → fits k m ≡ t → is_measured line proofs ≡ u → cond t (cond u (text_check k m [] line proofs) (Err (Text Size))) (Err Sizes) ≡ Ok tt
+          → (ls : List ProofLine) × (proofs ≡ proofs_text ls) × Certificate k m ls × (is_measured line proofs ≡ true)
+      by_test true true t u p = let r = text_to line proofs t p in (r.0, r.1, r.2, u)
+      by_test true false t u p = let z : ◌≡◌ {A = ℕ} 0 1 = grind arith in absurd (omega arith)
+      by_test false u t e p = let z : ◌≡◌ {A = ℕ} 0 1 = grind arith in absurd (omega arith)
 
-  check_from : (line : ℕ) (ls : List ProofLine) → Certificate k m ls → check_of k m line (proofs_text ls) ≡ Ok tt
-  check_from line ls c =
+  check_from : (line : ℕ) (ls : List ProofLine) → Certificate k m ls → is_measured line (proofs_text ls) ≡ true → check_of k m line (proofs_text ls) ≡ Ok tt
+  check_from line ls c u =
       cond-true (fits k m) _ _ (fits_from c.states_same c.inputs_same)
+      ∙ cond-true (is_measured line (proofs_text ls)) _ _ u
       ∙ ap (λ p. lines_check k m [] line p.0 p.1) (rows_lines (map proof_numbers ls))
       ∙ lines_from [] line ls (record {
         each = c.each;
@@ -453,4 +456,4 @@ module _ (k : CaseValues) (m : Meaning) where
   -- check accepts exactly when the proof part is the text of a certificate
   pub check_form : (line : ℕ) (proofs : List ℕ) → CheckForm k m line proofs
   unfolding CheckForm
-  check_form line proofs = (check_to line proofs, λ c. ap (check_of k m line) c.1 ∙ check_from line c.0 c.2)
+  check_form line proofs = (check_to line proofs, λ c. ap (check_of k m line) c.1 ∙ check_from line c.0 c.2 (ap (is_measured line) (sym c.1) ∙ c.3))

@@ -1,6 +1,6 @@
 -- A case that check accepts is invariant.
 use Rattle.std.proofs.Common.{◌≡◌, ℕ, suc, ◌-◌, Bool, true, false, ◌&&◌, ◌||◌, eqb, List, [], ◌∷◌, get_or, Ok, refl, subst, arith}
-use Rattle.std.specs.List.{AllByRecursion as All}
+use Rattle.std.specs.List.{AllByRecursion}
 use Rattle.std.proofs.lemmas.Bool.{false≢true, eqb-true, and_parts}
 use Rattle.control.specs.Answers.{no_row}
 use Rattle.control.specs.Cover.{Cover}
@@ -16,7 +16,7 @@ use Rattle.checking.specs.Forms.{Certificate, CheckForm}
 use Rattle.checking.proofs.Exact.{Standing, check_form}
 
 -- the line that names a pair
-pub named_line : (P : ProofLine → Type 0) (ls : List ProofLine) (region face : ℕ) → names ls region face ≡ true → All P ls
+pub named_line : (P : ProofLine → Type 0) (ls : List ProofLine) (region face : ℕ) → names ls region face ≡ true → AllByRecursion P ls
     → (l : ProofLine) × (l.region ≡ region) × (l.face ≡ face) × P l
 named_line P [] region face e h = absurd (false≢true e)
 named_line P (l ∷ ls) region face e h = by_test (eqb l.region region && eqb l.face face) refl (λ d. named_line P ls region face d h.1) e

@@ -1,8 +1,8 @@
 -- What check answers: the first fault of the proof part of a case text, line by line, or that there is none.
-use Rattle.std.specs.Prelude.{ℕ, ◌+◌, Bool, false, cond, ◌&&◌, ◌||◌, List, [], ◌∷◌, length, drop, replicate, ℤ, pos, Some, None, Ok, Err, Option, Result, ◌==◌, slice_index_or, unsigned_abs}
+use Rattle.std.specs.Prelude.{ℕ, ◌+◌, Bool, false, cond, ◌&&◌, ◌||◌, List, [], ◌∷◌, length, drop, replicate, ℤ, pos, Some, None, Ok, Err, Option, Result, ◌==◌, nat_le, slice_index_or, unsigned_abs}
 use Rattle.std.specs.List.{range_with_len}
 use Rattle.text.specs.Bytes.{line_feed}
-use Rattle.text.specs.Lines.{bind, place, next_number, after_field, numbers_of}
+use Rattle.text.specs.Lines.{bind, text_limit, place, next_number, after_field, numbers_of}
 use Rattle.text.specs.declared.faults.FieldFault.TheVariants.{Malformed, Outside}
 use Rattle.text.specs.declared.faults.TextFault.{TextFault}
 use Rattle.text.specs.declared.faults.TextFault.TheVariants.{Size, Line, Field}
@@ -141,6 +141,14 @@ lines_check k m before line (l ∷ ls) rest = bind (line_of k m before line l) (
 abbrev pub text_check : CaseValues → Meaning → List ProofLine → ℕ → List ℕ → Result (Unit {0}) CheckFault
 text_check k m before line text = lines_check k m before line (text_lines text).0 (text_lines text).1
 
--- a controller of other sizes is refused before any line
+-- the first proof line stands at line 8 + 2 × 4 + 2 + 8 of a case text at the latest
+abbrev pub most_first_line : ℕ
+most_first_line = 26
+
+-- a proof part begins where the head of a case text can end, and is no longer than a text
+abbrev pub is_measured : ℕ → List ℕ → Bool
+is_measured line proofs = nat_le line most_first_line && nat_le (length proofs) text_limit
+
+-- a controller of other sizes is refused before any line, and so is a proof part that no case text has
 abbrev pub check_of : CaseValues → Meaning → ℕ → List ℕ → Result (Unit {0}) CheckFault
-check_of k m line proofs = cond (fits k m) (text_check k m [] line proofs) (Err Sizes)
+check_of k m line proofs = cond (fits k m) (cond (is_measured line proofs) (text_check k m [] line proofs) (Err (Text Size))) (Err Sizes)

@@ -1,13 +1,13 @@
 -- When check accepts, said by rendering: the proof part is the text of a certificate.
 use Rattle.std.specs.Prelude.{◌≡◌, ℕ, ◌≤◌, true, List, [], ◌∷◌, map, length, ℤ, pos, Ok, ◌≢◌}
-use Rattle.std.specs.List.{AllByRecursion as All}
+use Rattle.std.specs.List.{AllByRecursion}
 use Rattle.text.specs.Forms.{Iff}
 use Rattle.control.specs.Meaning.{Meaning}
 use Rattle.case.specs.Faces.{faces}
 use Rattle.case.specs.Forms.{rows_before}
 use Rattle.case.specs.Values.{CaseValues, state_count}
 use Rattle.certificate.specs.Tests.{Stands}
-use Rattle.checking.specs.Checking.{ProofLine, names, check_of}
+use Rattle.checking.specs.Checking.{ProofLine, names, is_measured, check_of}
 
 -- the text of proof lines: region, face, scale and multipliers, a line each
 abbrev pub proof_numbers : ProofLine → List ℤ
@@ -19,17 +19,17 @@ proofs_text ls = rows_before (map proof_numbers ls) []
 -- no two lines name the same pair
 abbrev pub Apart : List ProofLine → Type 0
 Apart [] = Unit {0}
-Apart (l ∷ ls) = All (λ x. l.region ≡ x.region → l.face ≢ x.face) ls × Apart ls
+Apart (l ∷ ls) = AllByRecursion (λ x. l.region ≡ x.region → l.face ≢ x.face) ls × Apart ls
 
 -- a certificate for a case with a controller: its lines name every pair of region and face once, and each line's numbers keep their limits and meet Farkas' equations
 pub record Certificate (k : CaseValues) (m : Meaning) (ls : List ProofLine) : Type 0 where
   pub states_same : m.states ≡ state_count k
   pub inputs_same : m.inputs ≡ k.inputs
-  pub each : All (λ l. Stands k m l.region l.face l.scale l.multipliers) ls
+  pub each : AllByRecursion (λ l. Stands k m l.region l.face l.scale l.multipliers) ls
   pub apart : Apart ls
   pub every : (region face : ℕ) → 1 ≤ region → region ≤ length m.regions → 1 ≤ face → face ≤ length (faces k) → names ls region face ≡ true
 
--- check accepts exactly when the proof part is the text of a certificate
+-- check accepts exactly when the proof part is the text of a certificate, and is one that a case text can have
 unfoldable pub CheckForm : CaseValues → Meaning → ℕ → List ℕ → Type 0
 CheckForm k m line proofs =
-    Iff (check_of k m line proofs ≡ Ok tt) ((ls : List ProofLine) × (proofs ≡ proofs_text ls) × Certificate k m ls)
+    Iff (check_of k m line proofs ≡ Ok tt) ((ls : List ProofLine) × (proofs ≡ proofs_text ls) × Certificate k m ls × (is_measured line proofs ≡ true))

@@ -1,13 +1,13 @@
 // The proof lines of a case, one by one.
 ghost use Rattle.std.specs.Prelude.{◌≡◌, ◌+◌, ◌≤◌, true, List, [], length, pos, ◌≤ℤ◌, IfOk, OnOk, unsigned_abs};
 ghost use Rattle.text.specs.Left.{left_of};
-ghost use Rattle.text.specs.Lines.{next_number, after_field};
+ghost use Rattle.text.specs.Lines.{text_limit, next_number, after_field};
 ghost use Rattle.control.specs.Meaning.{meaning};
 ghost use Rattle.case.specs.Faces.{faces};
 ghost use Rattle.case.specs.Values.{values_of};
 ghost use Rattle.system.specs.Answers.{most_system_rows, system_of};
 ghost use Rattle.certificate.specs.Tests.{all_in_limit};
-ghost use Rattle.checking.specs.Checking.{ProofLine, up_to, as_index, proof_line, equations_at, line_of, text_check};
+ghost use Rattle.checking.specs.Checking.{ProofLine, most_first_line, up_to, as_index, proof_line, equations_at, line_of, text_check};
 ghost use Rattle.checking.specs.Marks.{Marks, LineTold};
 
 use crate::faults::{CheckFault, Pair};
@@ -126,6 +126,7 @@ fn check_line<C: Controller>(
 
 // Judges the proof lines of a case in their order, and then whether they name every pair.
 pub(crate) fn check_lines<C: Controller>(case: &Case, controller: &C) -> Result<(), CheckFault>
+    requires short { (case.now.line ≤ most_first_line) × (length case.now.proofs.now ≤ text_limit) }
     requires states { C.states controller.now ≡ case.now.states }
     requires inputs { C.inputs controller.now ≡ case.now.inputs }
     ensures { let c = controller.now in result ≡ text_check (values_of case.now) (meaning (C.states c) (C.inputs c) (C.partition c) (C.feedback c)) [] case.now.line case.now.proofs.now }

@@ -11,6 +11,11 @@ use crate::faults::CheckFault;
 use crate::lines::check_lines;
 use case::values::Case;
 use control::Controller;
+use text::faults::TextFault;
+use text::lines::TEXT_LIMIT;
+
+// The first proof line of a case text stands at this line at the latest, as in specs.
+const MOST_FIRST_LINE: u32 = 26;
 
 // A case that check has accepted; there is no other way to one. It stands on the case that was read.
 #[derive(Drop)]
@@ -42,6 +47,9 @@ pub fn check<'c, 't, C: Controller>(
     let (states, inputs) = controller.sizes();
     if states != case.states || inputs != case.inputs {
         return Err(CheckFault::Sizes);
+    }
+    if case.line > MOST_FIRST_LINE || case.proofs.len() > TEXT_LIMIT {
+        return Err(CheckFault::Text(TextFault::Size));
     }
     check_lines(case, controller)?;
     Ok(Trusted { case })

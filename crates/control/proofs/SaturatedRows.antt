@@ -1,6 +1,6 @@
 -- The rows of a saturated law, one by one, and its inputs as the code holds them.
 use Rattle.std.proofs.Common.{◌≡◌, ℕ, zero, suc, ◌+◌, ◌-◌, ◌*◌, ◌/◌, ◌%◌, ◌<◌, ◌≤◌, true, false, cond, ◌&&◌, ◌⊎◌, List, [], ◌∷◌, ◌++◌, map, length, get_or, take, ℤ, Ok, Err, sym, refl, ap, ◌∙◌, subst, inl, inr, arith}
-use Rattle.std.specs.List.{AllByRecursion as All}
+use Rattle.std.specs.List.{AllByRecursion}
 use Rattle.std.proofs.lemmas.List.{get_or_append_left, get_or-append_right, get_or-map, get_or-take, length-append, length-map, length-take-le}
 use Rattle.std.proofs.lemmas.Bool.{and_parts, and_right, and_from, eq-eqb}
 use Rattle.arith.specs.Bounds.{all_within}
@@ -130,10 +130,10 @@ region_found n us x k e f g =
     ∙ sym (ap (λ b. cond b (cond (all_within state_limit x) (Ok (region_at n us x)) (Err Range)) (Err Length)) (eq-eqb _ _ e)
     ∙ ap (λ b. cond b (Ok (region_at n us x)) (Err Range)) (sym f))
 
-pub region_holds_at : (n m : ℕ) (us : List Input) → SaturatedOk n m us → (x : List ℤ) (k : ℕ) → length x ≡ n → true ≡ all_within state_limit x → k ≡ region_at n us x → All (Holds (x ++ saturated_command n us x)) (get_or (saturated_partition n us) (k - 1) [])
+pub region_holds_at : (n m : ℕ) (us : List Input) → SaturatedOk n m us → (x : List ℤ) (k : ℕ) → length x ≡ n → true ≡ all_within state_limit x → k ≡ region_at n us x → AllByRecursion (Holds (x ++ saturated_command n us x)) (get_or (saturated_partition n us) (k - 1) [])
 region_holds_at n m us ok x k e f g =
     let i : index_of (digits_at n us x) ≡ k - 1 = omega arith in
-    subst (λ t. All (Holds (x ++ saturated_command n us x)) (get_or (saturated_partition n us) t [])) i
+    subst (λ t. AllByRecursion (Holds (x ++ saturated_command n us x)) (get_or (saturated_partition n us) t [])) i
     (region_holds n m us ok x (record { long = e; small = all_from_test state_limit x (sym f) }))
 
 -- the lists that the constructor makes of one or two inputs

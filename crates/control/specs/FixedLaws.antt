@@ -1,7 +1,7 @@
 -- The fixed law keeps the limits and covers: proofs of the laws of a controller, which the impl cites. Nothing here needs to be believed.
 use Rattle.std.proofs.Common.{◌≡◌, ℕ, ◌+◌, ◌<◌, ◌≤◌, true, List, [], ◌∷◌, ◌++◌, map, length, get_or, take, replicate, ℤ, pos, negsuc, neg_ℤ, sym, refl, ◌∙◌, arith}
 use lib.IntN.{zero-*ℤ}
-use Rattle.std.specs.List.{AllByRecursion as All}
+use Rattle.std.specs.List.{AllByRecursion}
 use Rattle.std.proofs.ByRecursion.{All-append, All-take}
 use Rattle.std.proofs.lemmas.List.{length-replicate, length-take-le}
 use Rattle.std.proofs.lemmas.Int.{ints}
@@ -27,7 +27,7 @@ pub record FixedOk (n m : ℕ) (us : List ℤ) : Type 0 where
   pub m_low : 1 ≤ m
   pub m_high : m ≤ most_inputs
   pub long : length us ≡ m
-  pub small : All (Within setting_limit) us
+  pub small : AllByRecursion (Within setting_limit) us
 
 -- what the limits of its fields give
 pub ok_from : (n m : ℕ) (us : List ℤ) → (1 ≤ n) × (n ≤ most_states) × (1 ≤ m) × (m ≤ most_inputs) → length us ≡ 2 → all_within setting_limit us ≡ true → FixedOk n m (take m us)
@@ -42,7 +42,7 @@ ok_from n m us sizes two small =
       small = All-take (Within setting_limit) m us (all_from_test setting_limit us small);
     }
 
-lines_hold : (n m j : ℕ) (u : ℤ) (x us : List ℤ) → length x ≡ n → j < m → length us ≡ m → get_or us j (pos 0) ≡ u → All (Holds (x ++ us)) (map (row_from (replicate n (pos 0)) m j) (fixed_lines u))
+lines_hold : (n m j : ℕ) (u : ℤ) (x us : List ℤ) → length x ≡ n → j < m → length us ≡ m → get_or us j (pos 0) ≡ u → AllByRecursion (Holds (x ++ us)) (map (row_from (replicate n (pos 0)) m j) (fixed_lines u))
 lines_hold n m j u x us e lt f at =
     let d = λ (l : Line). dot_spread (replicate n (pos 0)) m j l x us (length-replicate n (pos 0) ∙ sym e) lt f in (
       omega (arith, ints, d (line (pos 0) (pos 1) u), zero-*ℤ (dot (replicate n (pos 0)) x), at),
@@ -65,7 +65,7 @@ fixed_cover n m us ok =
     ))
     m us ok.long ok.m_low ok.m_high
 
-lines_limits : (n m j : ℕ) (u : ℤ) → Within setting_limit u → All (RowLimits (n + m)) (map (row_from (replicate n (pos 0)) m j) (fixed_lines u))
+lines_limits : (n m j : ℕ) (u : ℤ) → Within setting_limit u → AllByRecursion (RowLimits (n + m)) (map (row_from (replicate n (pos 0)) m j) (fixed_lines u))
 lines_limits n m j u w =
     let each = λ (l : Line). row_limits (replicate n (pos 0)) n m j l (length-replicate n (pos 0)) (zeros_within coefficient_limit n) in (
       each (line (pos 0) (pos 1) u) (omega (arith, ints), omega (arith, ints)) (omega (arith, ints), omega (arith, ints)) (omega (arith, ints), omega (arith, ints)),
@@ -111,7 +111,7 @@ limits_two n a b low high wa wb =
 
 pub fixed_limits : (n m : ℕ) (us : List ℤ) → FixedOk n m us → Limits (fixed_meaning n m us)
 fixed_limits n m us ok =
-    at_one_two (λ k vs. All (Within setting_limit) vs → Limits (fixed_meaning n k vs))
+    at_one_two (λ k vs. AllByRecursion (Within setting_limit) vs → Limits (fixed_meaning n k vs))
     (λ a w. limits_one n a ok.n_low ok.n_high w.0)
     (λ a b w. limits_two n a b ok.n_low ok.n_high w.0 w.1.0)
     m us ok.long ok.m_low ok.m_high ok.small

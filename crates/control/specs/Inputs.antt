@@ -3,7 +3,7 @@ use Rattle.std.proofs.Common.{◌≡◌, ℕ, zero, suc, ◌+◌, ◌-◌, ◌*�
 use borrow.Rule.Slice.PartMut.{mid_of}
 use lib.IntN.{pos-*ℤ-pos, pos-*ℤ-negsuc}
 use lib.Signed.{le_z}
-use Rattle.std.specs.List.{AllByRecursion as All}
+use Rattle.std.specs.List.{AllByRecursion}
 use Rattle.std.proofs.ByRecursion.{All-take}
 use Rattle.std.proofs.lemmas.List.{length-take-le, at_drop_more}
 use Rattle.std.proofs.lemmas.Int.{ints, to_z-of_z}
@@ -21,7 +21,7 @@ use Rattle.control.specs.Saturated.{gain_limit, offset_limit, most_divisor, gain
 -- the limits of an input, as facts
 pub record InputOk (i : Input) : Type 0 where
   pub long : length i.gains ≡ most_states
-  pub gains_small : All (Within gain_limit) i.gains
+  pub gains_small : AllByRecursion (Within gain_limit) i.gains
   pub offset_small : Within offset_limit i.offset
   pub divisor_low : pos 1 ≤ℤ i.divisor
   pub divisor_high : i.divisor ≤ℤ pos most_divisor
@@ -49,7 +49,7 @@ ok_input i e =
       ordered = le_z_true _ _ o.1;
     }
 
-pub ok_inputs : (is : List Input) → inputs_ok is ≡ true → All InputOk is
+pub ok_inputs : (is : List Input) → inputs_ok is ≡ true → AllByRecursion InputOk is
 ok_inputs [] e = tt
 ok_inputs (i ∷ is) e = let p = and_parts (input_ok i) (inputs_ok is) e in (ok_input i p.0, ok_inputs is p.1)
 
@@ -57,7 +57,7 @@ ok_inputs (i ∷ is) e = let p = and_parts (input_ok i) (inputs_ok is) e in (ok_
 pub gains_long : (n : ℕ) (i : Input) → n ≤ most_states → InputOk i → length (take n i.gains) ≡ n
 gains_long n i le ok = let h : n ≤ length i.gains = omega (arith, ok.long) in length-take-le n i.gains h
 
-pub gains_within : (n : ℕ) (i : Input) → InputOk i → All (Within coefficient_limit) (take n i.gains)
+pub gains_within : (n : ℕ) (i : Input) → InputOk i → AllByRecursion (Within coefficient_limit) (take n i.gains)
 gains_within n i ok = All-take (Within coefficient_limit) n i.gains (all_wider gain_limit coefficient_limit (omega arith) i.gains ok.gains_small)
 
 -- the edges
@@ -158,7 +158,7 @@ line_is ls k p s o r a b e at own right = ap (λ t. line s t r) own ∙ ap (line
 pub front_slice : (n : ℕ) (g : List ℤ) → mid_of {X = ℤ} 0 (n - 0) g ≡ take n g
 front_slice n g = let e : n - 0 ≡ n = omega arith in ap (λ k. take k g) e
 
-pub value_fits : (i : Input) (x : List ℤ) → length x ≤ most_states → All (Within state_limit) x → input_ok i ≡ true → SFits w64 (value (length x) i x)
+pub value_fits : (i : Input) (x : List ℤ) → length x ≤ most_states → AllByRecursion (Within state_limit) x → input_ok i ≡ true → SFits w64 (value (length x) i x)
 value_fits i x le small e =
     let ok = ok_input i e in
     let n = length x in

@@ -1,6 +1,6 @@
 -- The limits of a controller's sizes, rows and commands.
 use Rattle.std.specs.Prelude.{◌≡◌, ℕ, ◌+◌, ◌≤◌, Bool, ◌&&◌, List, length, ℤ, nat_le}
-use Rattle.std.specs.List.{AllByRecursion as All}
+use Rattle.std.specs.List.{AllByRecursion}
 use Rattle.arith.specs.Bounds.{Within}
 use Rattle.control.specs.Meaning.{Row, Meaning}
 
@@ -38,17 +38,17 @@ setting_limit = 500000
 
 pub record RowLimits (width : ℕ) (row : Row) : Type 0 where
   pub wide : length row.coefficients ≡ width
-  pub small : All (Within coefficient_limit) row.coefficients
+  pub small : AllByRecursion (Within coefficient_limit) row.coefficients
   pub right_small : Within right_limit row.right
 
 pub record RegionLimits (width : ℕ) (rows : List Row) : Type 0 where
   pub few : length rows ≤ most_rows
-  pub each : All (RowLimits width) rows
+  pub each : AllByRecursion (RowLimits width) rows
 
 -- a state in range
 pub record State (n : ℕ) (x : List ℤ) : Type 0 where
   pub long : length x ≡ n
-  pub small : All (Within state_limit) x
+  pub small : AllByRecursion (Within state_limit) x
 
 pub record Limits (m : Meaning) : Type 0 where
   pub states_low : 1 ≤ m.states
@@ -57,6 +57,6 @@ pub record Limits (m : Meaning) : Type 0 where
   pub inputs_high : m.inputs ≤ most_inputs
   pub regions_low : 1 ≤ length m.regions
   pub regions_high : length m.regions ≤ most_regions
-  pub each : All (RegionLimits (m.states + m.inputs)) m.regions
+  pub each : AllByRecursion (RegionLimits (m.states + m.inputs)) m.regions
   pub command_long : (x : List ℤ) → State m.states x → length (m.command x) ≡ m.inputs
-  pub command_small : (x : List ℤ) → State m.states x → All (Within command_limit) (m.command x)
+  pub command_small : (x : List ℤ) → State m.states x → AllByRecursion (Within command_limit) (m.command x)

@@ -2,7 +2,7 @@
 use Rattle.std.proofs.Common.{◌≡◌, ℕ, suc, ◌+◌, ◌*◌, ◌/◌, ◌%◌, ◌^◌, ◌<◌, ◌≤◌, true, false, cond, List, [], ◌∷◌, ◌++◌, map, length, get_or, take, ℤ, pos, negsuc, ◌+ℤ◌, ◌-ℤ◌, ◌*ℤ◌, neg_ℤ, ◌≤ℤ◌, ◌<ℤ◌, sym, refl, ap, ◌∙◌, subst, pow-suc, arith}
 use lib.IntN.{zero-*ℤ}
 use lib.Signed.{le_z}
-use Rattle.std.specs.List.{AllByRecursion as All, range_with_len}
+use Rattle.std.specs.List.{AllByRecursion, range_with_len}
 use Rattle.std.specs.Int.{int_max, int_min}
 use Rattle.std.proofs.lemmas.List.FromFn.{length-map-range_with_len, get_or-map-range_with_len}
 use Rattle.std.proofs.ByRecursion.{All-append, All-map, All-weaker, All-take}
@@ -37,7 +37,7 @@ pub record SaturatedOk (n m : ℕ) (is : List Input) : Type 0 where
   pub m_low : 1 ≤ m
   pub m_high : m ≤ most_inputs
   pub long : length is ≡ m
-  pub each : All InputOk is
+  pub each : AllByRecursion InputOk is
 
 -- what the limits of its fields give
 pub ok_from : (n m : ℕ) (is : List Input) → (1 ≤ n) × (n ≤ most_states) × (1 ≤ m) × (m ≤ most_inputs) → length is ≡ 2 → inputs_ok is ≡ true → SaturatedOk n m (take m is)
@@ -79,7 +79,7 @@ Fair d u l = (l.sign *ℤ d +ℤ l.own *ℤ u) ≤ℤ l.right
 abbrev input : List ℤ → ℤ → ℕ → ℤ → ℤ → Input
 input g k b l h = record { gains = g; offset = k; divisor = pos b; low = l; high = h }
 
-low_fair : (g : List ℤ) (k : ℤ) (b : ℕ) (l h d : ℤ) → 0 < b → l ≤ℤ h → le_z (d +ℤ k) (pos b *ℤ l -ℤ pos 1) ≡ true → All (Fair d (part (input g k b l h) (d +ℤ k))) (lines (input g k b l h) Low)
+low_fair : (g : List ℤ) (k : ℤ) (b : ℕ) (l h d : ℤ) → 0 < b → l ≤ℤ h → le_z (d +ℤ k) (pos b *ℤ l -ℤ pos 1) ≡ true → AllByRecursion (Fair d (part (input g k b l h) (d +ℤ k))) (lines (input g k b l h) Low)
 low_fair g k b l h d p o t =
     let t' : (d +ℤ k) ≤ℤ (pos b *ℤ l -ℤ pos 1) = le_z_true _ _ t in
     let e = clip_low b l h (d +ℤ k) p o t' in
@@ -87,7 +87,7 @@ low_fair g k b l h d p o t =
     let y = zero-*ℤ (int_max l (int_min h (quotient (d +ℤ k) (pos b)))) in
     (omega (arith, ints), (omega (arith, ints), (omega (arith, ints), tt)))
 
-high_fair : (g : List ℤ) (k : ℤ) (b : ℕ) (l h d : ℤ) → 0 < b → l ≤ℤ h → le_z (pos b *ℤ (h +ℤ pos 1)) (d +ℤ k) ≡ true → All (Fair d (part (input g k b l h) (d +ℤ k))) (lines (input g k b l h) High)
+high_fair : (g : List ℤ) (k : ℤ) (b : ℕ) (l h d : ℤ) → 0 < b → l ≤ℤ h → le_z (pos b *ℤ (h +ℤ pos 1)) (d +ℤ k) ≡ true → AllByRecursion (Fair d (part (input g k b l h) (d +ℤ k))) (lines (input g k b l h) High)
 high_fair g k b l h d p o t =
     let t' : (pos b *ℤ (h +ℤ pos 1)) ≤ℤ (d +ℤ k) = le_z_true _ _ t in
     let e = clip_high b l h (d +ℤ k) p o t' in
@@ -95,7 +95,7 @@ high_fair g k b l h d p o t =
     let y = zero-*ℤ (int_max l (int_min h (quotient (d +ℤ k) (pos b)))) in
     (omega (arith, ints), (omega (arith, ints), (omega (arith, ints), tt)))
 
-middle_fair : (g : List ℤ) (k : ℤ) (b : ℕ) (l h d : ℤ) → 0 < b → l ≤ℤ h → le_z (d +ℤ k) (pos b *ℤ l -ℤ pos 1) ≡ false → le_z (pos b *ℤ (h +ℤ pos 1)) (d +ℤ k) ≡ false → All (Fair d (part (input g k b l h) (d +ℤ k))) (lines (input g k b l h) Middle)
+middle_fair : (g : List ℤ) (k : ℤ) (b : ℕ) (l h d : ℤ) → 0 < b → l ≤ℤ h → le_z (d +ℤ k) (pos b *ℤ l -ℤ pos 1) ≡ false → le_z (pos b *ℤ (h +ℤ pos 1)) (d +ℤ k) ≡ false → AllByRecursion (Fair d (part (input g k b l h) (d +ℤ k))) (lines (input g k b l h) Middle)
 middle_fair g k b l h d p o s t =
     let v = d +ℤ k in
     let f = quotient v (pos b) in
@@ -103,7 +103,7 @@ middle_fair g k b l h d p o s t =
     let t' : v <ℤ (pos b *ℤ (h +ℤ pos 1)) = le_z_false _ _ t in
     let e : int_max l (int_min h f) ≡ f = clip_middle b l h v p o s' t' in
     let z = zero-*ℤ d in
-    subst (λ u. All (Fair d u) (lines (input g k b l h) Middle)) (sym e) (
+    subst (λ u. AllByRecursion (Fair d u) (lines (input g k b l h) Middle)) (sym e) (
       omega (arith, ints, floor_low v b p),
       (
         omega (arith, ints, floor_high v b p, neg-*ℤ (pos b) f),
@@ -114,17 +114,17 @@ middle_fair g k b l h d p o s t =
       ),
     )
 
-fair : (g : List ℤ) (k : ℤ) (b : ℕ) (l h d : ℤ) → 0 < b → l ≤ℤ h → All (Fair d (part (input g k b l h) (d +ℤ k))) (lines (input g k b l h) (digit_of (input g k b l h) (d +ℤ k)))
+fair : (g : List ℤ) (k : ℤ) (b : ℕ) (l h d : ℤ) → 0 < b → l ≤ℤ h → AllByRecursion (Fair d (part (input g k b l h) (d +ℤ k))) (lines (input g k b l h) (digit_of (input g k b l h) (d +ℤ k)))
 fair g k b l h d p o =
-    let P : Digit → Type 0 = λ t. All (Fair d (part (input g k b l h) (d +ℤ k))) (lines (input g k b l h) t) in
+    let P : Digit → Type 0 = λ t. AllByRecursion (Fair d (part (input g k b l h) (d +ℤ k))) (lines (input g k b l h) t) in
     cond_both (le_z (d +ℤ k) (pos b *ℤ l -ℤ pos 1)) Low (cond (le_z (pos b *ℤ (h +ℤ pos 1)) (d +ℤ k)) High Middle) P
     (λ t. low_fair g k b l h d p o t)
     (λ s. cond_both (le_z (pos b *ℤ (h +ℤ pos 1)) (d +ℤ k)) High Middle P (λ t. high_fair g k b l h d p o t) (λ t. middle_fair g k b l h d p o s t))
 
-input_fair : (n : ℕ) (i : Input) (x : List ℤ) → InputOk i → All (Fair (dot (take n i.gains) x) (part i (value n i x))) (lines i (digit_of i (value n i x)))
+input_fair : (n : ℕ) (i : Input) (x : List ℤ) → InputOk i → AllByRecursion (Fair (dot (take n i.gains) x) (part i (value n i x))) (lines i (digit_of i (value n i x)))
 input_fair n i x ok =
     let b = natural i.divisor ok.divisor_low in
-    let P : ℤ → Type 0 = λ q. let j : Input = record { gains = i.gains; offset = i.offset; divisor = q; low = i.low; high = i.high } in All (Fair (dot (take n i.gains) x) (part j (value n j x))) (lines j (digit_of j (value n j x))) in
+    let P : ℤ → Type 0 = λ q. let j : Input = record { gains = i.gains; offset = i.offset; divisor = q; low = i.low; high = i.high } in AllByRecursion (Fair (dot (take n i.gains) x) (part j (value n j x))) (lines j (digit_of j (value n j x))) in
     subst P (sym b.1) (fair i.gains i.offset b.0 i.low i.high (dot (take n i.gains) x) b.2 ok.ordered)
 
 -- digits and their numbers
@@ -168,7 +168,7 @@ line_holds n m j i x u g le ex eu lt ok eg ep l fits =
     dot_spread g m j l x u lg lt eu ∙ ap (λ t. l.sign *ℤ dot t x +ℤ l.own *ℤ get_or u j (pos 0)) eg ∙ ap (λ t. l.sign *ℤ dot (take n i.gains) x +ℤ l.own *ℤ t) ep in
     subst (λ t. t ≤ℤ l.right) (sym e) fits
 
-stack_holds : (n m j : ℕ) (is : List Input) (x u : List ℤ) (g : ℕ → List ℤ) → n ≤ most_states → length x ≡ n → length u ≡ m → j + length is ≡ m → All InputOk is → Fit n x u g j is → All (Holds (x ++ u)) (stacked g m j (map (λ i. lines i (digit_of i (value n i x))) is))
+stack_holds : (n m j : ℕ) (is : List Input) (x u : List ℤ) (g : ℕ → List ℤ) → n ≤ most_states → length x ≡ n → length u ≡ m → j + length is ≡ m → AllByRecursion InputOk is → Fit n x u g j is → AllByRecursion (Holds (x ++ u)) (stacked g m j (map (λ i. lines i (digit_of i (value n i x))) is))
 stack_holds n m j [] x u g le ex eu em ok fit = tt
 stack_holds n m j (i ∷ is) x u g le ex eu em ok fit =
     let ls = lines i (digit_of i (value n i x)) in
@@ -194,12 +194,12 @@ digits_long : (n : ℕ) (is : List Input) (x : List ℤ) → index_of (digits_at
 digits_long n is x = subst (λ k. index_of (digits_at n is x) < radix ^ k) (length-map is (λ i. digit_of i (value n i x))) (index_small (digits_at n is x))
 
 -- all rows of the region at a state hold
-pub region_holds : (n m : ℕ) (is : List Input) → SaturatedOk n m is → (x : List ℤ) → State n x → All (Holds (x ++ saturated_command n is x)) (get_or (saturated_partition n is) (index_of (digits_at n is x)) [])
+pub region_holds : (n m : ℕ) (is : List Input) → SaturatedOk n m is → (x : List ℤ) → State n x → AllByRecursion (Holds (x ++ saturated_command n is x)) (get_or (saturated_partition n is) (index_of (digits_at n is x)) [])
 region_holds n m is ok x s =
     let k = length is in
     let u = saturated_command n is x in
     let e = partition_at n is (index_of (digits_at n is x)) (digits_long n is x) ∙ ap (stacked (gains_at n is) k 0) (region_lines_at n is x) in
-    subst (All (Holds (x ++ u))) (sym e)
+    subst (AllByRecursion (Holds (x ++ u))) (sym e)
     (stack_holds n k 0 is x u (gains_at n is) ok.n_high s.long (length-map is (λ i. part i (value n i x))) (omega arith) ok.each (fit_all n m is x ok))
 
 pub saturated_cover : (n m : ℕ) (is : List Input) → SaturatedOk n m is → Cover (saturated_meaning n m is)
@@ -233,7 +233,7 @@ upper_ok n m j i le ok z w = line_ok n m j i le ok (pos 0) (pos 1) z zero_unit (
 lower_ok : (n m j : ℕ) (i : Input) → n ≤ most_states → InputOk i → (z : ℤ) → Within setting_limit z → RowLimits (n + m) (row_from (take n i.gains) m j (line (pos 0) (negsuc 0) (neg_ℤ z)))
 lower_ok n m j i le ok z w = line_ok n m j i le ok (pos 0) (negsuc 0) (neg_ℤ z) zero_unit (unit_wider _ minus_unit) (setting_wider (neg_ℤ z) (negated_within setting_limit z w))
 
-lines_limits : (n m j : ℕ) (i : Input) (d : Digit) → n ≤ most_states → InputOk i → All (RowLimits (n + m)) (map (row_from (take n i.gains) m j) (lines i d))
+lines_limits : (n m j : ℕ) (i : Input) (d : Digit) → n ≤ most_states → InputOk i → AllByRecursion (RowLimits (n + m)) (map (row_from (take n i.gains) m j) (lines i d))
 lines_limits n m j i Low le ok = (
   upper_ok n m j i le ok i.low ok.low_small,
   (
@@ -270,7 +270,7 @@ lines_limits n m j i High le ok = (
 )
 
 -- the signs of lines
-pub lines_signed : (i : Input) (d : Digit) → All (λ l. Within 1 l.sign) (lines i d)
+pub lines_signed : (i : Input) (d : Digit) → AllByRecursion (λ l. Within 1 l.sign) (lines i d)
 lines_signed i Low = (zero_unit, (zero_unit, (plus_unit, tt)))
 lines_signed i Middle = (minus_unit, (plus_unit, (zero_unit, (zero_unit, tt))))
 lines_signed i High = (zero_unit, (zero_unit, (minus_unit, tt)))
@@ -282,7 +282,7 @@ lines_few i High = omega arith
 
 region_limits : (n m : ℕ) (is : List Input) → SaturatedOk n m is → (r : ℕ) → RegionLimits (n + m) (region_rows n is r)
 region_limits n m is ok r =
-    at_one_two (λ k vs. All InputOk vs → RegionLimits (n + k) (region_rows n vs r))
+    at_one_two (λ k vs. AllByRecursion InputOk vs → RegionLimits (n + k) (region_rows n vs r))
     (λ a w.
     let la = lines a (numbered (r % radix)) in
     let fa = row_from (take n a.gains) 1 0 in

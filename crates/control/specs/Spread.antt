@@ -1,6 +1,6 @@
 -- The coefficients of a row of one input: how the code fills them, their product and their limits.
 use Rattle.std.proofs.Common.{◌≡◌, ℕ, ◌+◌, ◌-◌, ◌<◌, ◌≤◌, List, ◌++◌, map, length, get_or, take, drop, set, replicate, ℤ, pos, ◌+ℤ◌, ◌*ℤ◌, sym, ap, ◌∙◌, arith, take-append-drop}
-use Rattle.std.specs.List.{AllByRecursion as All}
+use Rattle.std.specs.List.{AllByRecursion}
 use Rattle.std.proofs.ByRecursion.{All-append, All-map, All-set, All-weaker}
 use Rattle.std.proofs.lemmas.List.{length-map, length-replicate, get_or-map, get_or-replicate, get_or-take, get_or-drop, length-take-le, length-drop, set-append_right, ext_get_or, length-append, length-set}
 use Rattle.std.proofs.lemmas.Int.{ints}
@@ -47,7 +47,7 @@ dot_spread g m j l x u e lt f =
     ∙ omega (arith, ints, dot_map l.sign g x, dot_unit m j l.own u lt f)
 
 -- the limits of a row of one input
-pub row_limits : (g : List ℤ) (n m j : ℕ) (l : Line) → length g ≡ n → All (Within coefficient_limit) g → Within 1 l.sign → Within coefficient_limit l.own → Within right_limit l.right → RowLimits (n + m) (row_from g m j l)
+pub row_limits : (g : List ℤ) (n m j : ℕ) (l : Line) → length g ≡ n → AllByRecursion (Within coefficient_limit) g → Within 1 l.sign → Within coefficient_limit l.own → Within right_limit l.right → RowLimits (n + m) (row_from g m j l)
 row_limits g n m j l long small sign own right =
     record {
       wide = spread_long g m j l ∙ ap (λ k. k + m) long;

@@ -1,6 +1,6 @@
 // One input of a saturated law: its limits, its digit and its part of the command.
 ghost use Rattle.std.specs.Prelude.{◌≡◌, ◌<◌, ◌≤◌, true, length, slice_index_or};
-ghost use Rattle.std.specs.List.{AllByRecursion as All};
+ghost use Rattle.std.specs.List.{AllByRecursion};
 ghost use Rattle.arith.specs.Bounds.{Within};
 ghost use Rattle.control.specs.Limits.{most_states, state_limit};
 ghost use Rattle.control.specs.Lines.{no_line};
@@ -88,7 +88,7 @@ impl Input {
     pub(crate) fn value(&self, x: &[i64]) -> i64
         requires limits { input_ok self.now ≡ true }
         requires few { length x.now ≤ most_states }
-        requires small { All (Within state_limit) x.now }
+        requires small { AllByRecursion (Within state_limit) x.now }
         ensures { result ≡ value (length x.now) self.now x.now }
     {
         dot_product(&self.gains[0..x.len()], x) + self.offset

@@ -1,6 +1,6 @@
 // Rows that speak of one input.
 ghost use Rattle.std.specs.Prelude.{◌≡◌, ◌+◌, ◌-◌, ◌<◌, length};
-ghost use Rattle.std.specs.List.{AllByRecursion as All};
+ghost use Rattle.std.specs.List.{AllByRecursion};
 ghost use Rattle.arith.specs.Bounds.{Within};
 ghost use Rattle.control.specs.Limits.{coefficient_limit};
 ghost use Rattle.control.specs.Lines.{spread};
@@ -16,7 +16,7 @@ pub struct Line {
 // Writes the coefficients of a line of input j, counted from 0.
 pub fn fill_row(gains: &[i64], j: usize, line: Line, coefficients: &mut [i64])
     requires room { length gains.now + j < length coefficients.old }
-    requires small { All (Within coefficient_limit) gains.now }
+    requires small { AllByRecursion (Within coefficient_limit) gains.now }
     requires sign { Within 1 line.sign }
     ensures { coefficients.new ≡ spread gains.now (length coefficients.old - length gains.now) j line }
 {

@@ -1,6 +1,6 @@
 // The saturated law: an affine command for each input, divided and clipped.
 ghost use Rattle.std.specs.Prelude.{◌≡◌, ◌+◌, ◌-◌, ◌<◌, ◌≤◌, true, [], ◌++◌, length, take, pos, is_some, IfSome, IfOk, slice_index_or};
-ghost use Rattle.std.specs.List.{AllByRecursion as All};
+ghost use Rattle.std.specs.List.{AllByRecursion};
 ghost use Rattle.arith.specs.Bounds.{Within, all_within};
 ghost use Rattle.control.specs.Limits.{most_states, most_inputs, state_limit};
 ghost use Rattle.control.specs.Cover.{Holds};
@@ -129,7 +129,7 @@ impl Saturated {
     // The number of the region at the state x; all its rows hold there for the command.
     pub fn region(&self, x: &[i64]) -> Result<usize, ControlFault>
         ensures answer { let s = self.now in result ≡ region_answer s.states (take s.count s.inputs) x.now }
-        ensures holds { let s = self.now in IfOk result (λ k. All (Holds (x.now ++ saturated_command s.states (take s.count s.inputs) x.now)) (slice_index_or (saturated_partition s.states (take s.count s.inputs)) (k - 1) [])) }
+        ensures holds { let s = self.now in IfOk result (λ k. AllByRecursion (Holds (x.now ++ saturated_command s.states (take s.count s.inputs) x.now)) (slice_index_or (saturated_partition s.states (take s.count s.inputs)) (k - 1) [])) }
     {
         if x.len() != self.states {
             return Err(ControlFault::Length);

@@ -1,7 +1,7 @@
 -- Euclid's algorithm: its step, and that it finds the greatest common divisor.
 use Rattle.std.proofs.Common.{◌≡◌, ℕ, zero, suc, ◌+◌, ◌-◌, ◌*◌, ◌/◌, ◌%◌, ◌<◌, ◌≤◌, List, [], ◌∷◌, ℤ, nat_abs, refl, ap, ◌∙◌, arith}
 use native.Mathlib.Nat.{mul-sub}
-use Rattle.std.specs.List.{AllByRecursion as All}
+use Rattle.std.specs.List.{AllByRecursion}
 use Rattle.std.proofs.lemmas.Nat.{mod_below, div-add-mod'}
 use Rattle.elimination.specs.Divisors.{euclid, gcd, Divides, Greatest, divisor}
 
@@ -78,7 +78,7 @@ gcd_above x y h = divides_above (gcd x y) x (gcd_divides x y).0 h
 divides_trans : (a b c : ℕ) → Divides a b → Divides b c → Divides a c
 divides_trans a b c h k = (k.0 * h.0, k.1 ∙ ap (λ (n : ℕ). k.0 * n) h.1 ∙ omega arith)
 
-pub divisor_divides : (g : ℕ) (zs : List ℤ) → Divides (divisor g zs) g × All (λ z. Divides (divisor g zs) (nat_abs z)) zs
+pub divisor_divides : (g : ℕ) (zs : List ℤ) → Divides (divisor g zs) g × AllByRecursion (λ z. Divides (divisor g zs) (nat_abs z)) zs
 divisor_divides g [] = ((1, omega arith), tt)
 divisor_divides g (z ∷ zs) =
     let h = divisor_divides (gcd g (nat_abs z)) zs in
@@ -86,6 +86,6 @@ divisor_divides g (z ∷ zs) =
     let d = divisor (gcd g (nat_abs z)) zs in
     (divides_trans d (gcd g (nat_abs z)) g h.0 k.0, (divides_trans d (gcd g (nat_abs z)) (nat_abs z) h.0 k.1, h.1))
 
-pub divisor_limit : (m g : ℕ) (zs : List ℤ) → g ≤ m → All (λ z. nat_abs z ≤ m) zs → divisor g zs ≤ m
+pub divisor_limit : (m g : ℕ) (zs : List ℤ) → g ≤ m → AllByRecursion (λ z. nat_abs z ≤ m) zs → divisor g zs ≤ m
 divisor_limit m g [] h k = h
 divisor_limit m g (z ∷ zs) h k = divisor_limit m (gcd g (nat_abs z)) zs (gcd_limit g (nat_abs z) m h k.0) k.1

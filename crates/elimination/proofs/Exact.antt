@@ -3,7 +3,7 @@ use Rattle.std.proofs.Common.{◌≡◌, ℕ, zero, suc, ◌*◌, ◌/◌, ◌<�
 use native.Mathlib.Nat.{zero-div}
 use lib.IntN.{*ℤ-zero}
 use lib.Signed.{quot_z}
-use Rattle.std.specs.List.{AllByRecursion as All}
+use Rattle.std.specs.List.{AllByRecursion}
 use Rattle.std.proofs.ByRecursion.{All-weaker}
 use Rattle.std.proofs.lemmas.Int.{ints, by_lt_z}
 use Rattle.arith.specs.Products.{dot}
@@ -56,7 +56,7 @@ cancel d a b h e = let z : a -ℤ b ≡ pos 0 = lone d (a -ℤ b) h (minus (pos 
     minus d a b e = simp ring (rw e (omega (arith, ints)))
 
 -- the greatest common divisor of multipliers and scale divides them
-pub content_exact : (r : Row) → 0 < content r → All (Exact (content r)) r.multipliers × Exact (content r) r.scale
+pub content_exact : (r : Row) → 0 < content r → AllByRecursion (Exact (content r)) r.multipliers × Exact (content r) r.scale
 content_exact r l =
     let h = divisor_divides (nat_abs r.scale) r.multipliers in (
       All-weaker (λ z. Divides (content r) (nat_abs z)) (Exact (content r)) (λ z k. exact (content r) z l k) r.multipliers h.1,
@@ -67,12 +67,12 @@ content_exact r l =
 exact_zero : (d : ℕ) → Exact d (pos 0)
 exact_zero d = ap (λ (n : ℕ). pos (d * n)) (zero-div d) ∙ *ℤ-zero (pos d)
 
-pub exact_get_or : (d : ℕ) (zs : List ℤ) (i : ℕ) → All (Exact d) zs → Exact d (get_or zs i (pos 0))
+pub exact_get_or : (d : ℕ) (zs : List ℤ) (i : ℕ) → AllByRecursion (Exact d) zs → Exact d (get_or zs i (pos 0))
 exact_get_or d [] i h = exact_zero d
 exact_get_or d (z ∷ zs) zero h = h.0
 exact_get_or d (z ∷ zs) (suc i) h = exact_get_or d zs i h.1
 
-exact_all : (d : ℕ) (zs : List ℤ) → ((i : ℕ) → Exact d (get_or zs i (pos 0))) → All (Exact d) zs
+exact_all : (d : ℕ) (zs : List ℤ) → ((i : ℕ) → Exact d (get_or zs i (pos 0))) → AllByRecursion (Exact d) zs
 exact_all d [] h = tt
 exact_all d (z ∷ zs) h = (h 0, exact_all d zs (λ i. h (suc i)))
 
@@ -116,7 +116,7 @@ traced_weighted system face x y p q e f h k = record {
 quotient_step : (d q s u : ℤ) (m w : ℤ) → d *ℤ q ≡ m → w ≡ d *ℤ u → m *ℤ s +ℤ w ≡ d *ℤ (q *ℤ s +ℤ u)
 quotient_step d q s u m w e f = rw (← e) (rw f (simp ring))
 
-dot_quotients : (d : ℕ) (ms vs : List ℤ) → All (Exact d) ms → dot ms vs ≡ pos d *ℤ dot (quotients (pos d) ms) vs
+dot_quotients : (d : ℕ) (ms vs : List ℤ) → AllByRecursion (Exact d) ms → dot ms vs ≡ pos d *ℤ dot (quotients (pos d) ms) vs
 dot_quotients d [] vs h = sym (*ℤ-zero (pos d))
 dot_quotients d (m ∷ ms) [] h = sym (*ℤ-zero (pos d))
 dot_quotients d (m ∷ ms) (v ∷ vs) h = quotient_step (pos d) (quot_z m (pos d)) v (dot (quotients (pos d) ms) vs) m (dot ms vs) h.0 (dot_quotients d ms vs h.1)
@@ -124,7 +124,7 @@ dot_quotients d (m ∷ ms) (v ∷ vs) h = quotient_step (pos d) (quot_z m (pos d
 divided_step : (d q f u : ℤ) (s w : ℤ) → d *ℤ q ≡ s → w ≡ d *ℤ u → w +ℤ s *ℤ f ≡ d *ℤ (u +ℤ q *ℤ f)
 divided_step d q f u s w e g = rw (← e) (rw g (simp ring))
 
-summed_divided : (part : Source → ℤ) (system : List Source) (face : Source) (d : ℕ) (r : Row) → All (Exact d) r.multipliers → Exact d r.scale
+summed_divided : (part : Source → ℤ) (system : List Source) (face : Source) (d : ℕ) (r : Row) → AllByRecursion (Exact d) r.multipliers → Exact d r.scale
     → summed part system face r ≡ pos d *ℤ summed part system face (divided (pos d) r)
 summed_divided part system face d r h k =
     divided_step (pos d) (quot_z r.scale (pos d)) (part face) (dot (quotients (pos d) r.multipliers) (map part system)) r.scale (dot r.multipliers (map part system)) k (dot_quotients d r.multipliers (map part system) h)

@@ -2,7 +2,7 @@
 use Rattle.std.proofs.Common.{◌≡◌, ℕ, zero, suc, ◌+◌, ◌*◌, ◌<◌, ◌≤◌, List, [], ◌∷◌, ◌++◌, length, get_or, take, drop, set, ℤ, pos, negsuc, ◌+ℤ◌, ◌*ℤ◌, nat_abs, ◌<ℤ◌, sym, refl, ap, ◌∙◌, div-le_self, arith, lit<, w64, SFits, to_z, of_z}
 use lib.Signed.{quot_z}
 use borrow.Author.Differences.{up, down}
-use Rattle.std.specs.List.{AllByRecursion as All}
+use Rattle.std.specs.List.{AllByRecursion}
 use Rattle.std.proofs.lemmas.List.Edits.{fill_by_more, map_over_more}
 use Rattle.std.proofs.lemmas.List.{ext_get_or, get_or_default}
 use Rattle.std.proofs.lemmas.Int.{ints, to_z-of_z}
@@ -10,7 +10,7 @@ use Rattle.arith.specs.Bounds.{Within}
 use Rattle.arith.proofs.Bounds.{sfits_within, product_within}
 use Rattle.elimination.specs.Rows.{number_limit, sum_limit, mixed, quotients}
 
-pub within_get_or : (m : ℕ) (zs : List ℤ) (i : ℕ) → All (Within m) zs → Within m (get_or zs i (pos 0))
+pub within_get_or : (m : ℕ) (zs : List ℤ) (i : ℕ) → AllByRecursion (Within m) zs → Within m (get_or zs i (pos 0))
 within_get_or m [] i h = (omega (arith, ints), omega (arith, ints))
 within_get_or m (z ∷ zs) zero h = h.0
 within_get_or m (z ∷ zs) (suc i) h = within_get_or m zs i h.1
@@ -18,7 +18,7 @@ within_get_or m (z ∷ zs) (suc i) h = within_get_or m zs i h.1
 pub abs_within : (m : ℕ) (z : ℤ) → Within m z → nat_abs z ≤ m
 abs_within m z w = omega (arith, ints, w.0, w.1)
 
-pub all_abs_within : (m : ℕ) (zs : List ℤ) → All (Within m) zs → All (λ z. nat_abs z ≤ m) zs
+pub all_abs_within : (m : ℕ) (zs : List ℤ) → AllByRecursion (Within m) zs → AllByRecursion (λ z. nat_abs z ≤ m) zs
 all_abs_within m [] h = tt
 all_abs_within m (z ∷ zs) h = (abs_within m z h.0, all_abs_within m zs h.1)
 
@@ -48,7 +48,7 @@ sum_within x a y b hx ha hy hb =
     let q = product_within number_limit number_limit y b hy hb in
     (omega (arith, ints, p.0, q.0), omega (arith, ints, p.1, q.1))
 
-pub mixed_within : (x y : ℤ) (ps qs : List ℤ) → Within number_limit x → Within number_limit y → All (Within number_limit) ps → All (Within number_limit) qs → All (Within sum_limit) (mixed x y ps qs)
+pub mixed_within : (x y : ℤ) (ps qs : List ℤ) → Within number_limit x → Within number_limit y → AllByRecursion (Within number_limit) ps → AllByRecursion (Within number_limit) qs → AllByRecursion (Within sum_limit) (mixed x y ps qs)
 mixed_within x y [] qs hx hy hp hq = tt
 mixed_within x y (p ∷ ps) [] hx hy hp hq = tt
 mixed_within x y (p ∷ ps) (q ∷ qs) hx hy hp hq = (sum_within x p y q hx hp.0 hy hq.0, mixed_within x y ps qs hx hy hp.1 hq.1)

@@ -2,7 +2,7 @@
 use Rattle.std.proofs.Common.{◌≡◌, ℕ, zero, suc, ◌*◌, ◌/◌, ◌<◌, ◌≤◌, Bool, true, false, cond, ◌&&◌, List, [], ◌∷◌, get_or, ℤ, pos, negsuc, ◌+ℤ◌, ◌*ℤ◌, nat_abs, ◌≤ℤ◌, ◌<ℤ◌, Ok, Err, sym, refl, ap, ◌∙◌, ap₂, inl, inr, div-le_self, arith, w64, SFits, to_z, of_z}
 use lib.IntN.{*ℤ-zero}
 use lib.Signed.{quot_z}
-use Rattle.std.specs.List.{AllByRecursion as All}
+use Rattle.std.specs.List.{AllByRecursion}
 use Rattle.std.proofs.lemmas.List.{length-map}
 use Rattle.std.proofs.lemmas.Int.{ints, to_z-of_z}
 use Rattle.std.proofs.lemmas.Bool.{and_parts}
@@ -38,12 +38,12 @@ sum_low x y a b h k = omega (arith, ints, mul_mono x (pos 0) a h, mul_mono y (po
 pub sum_above : (x y : ℕ) (a b : ℤ) → 0 < x → pos 0 <ℤ a → pos 0 ≤ℤ b → pos 0 <ℤ (pos x *ℤ a +ℤ pos y *ℤ b)
 sum_above x y a b l h k = omega (arith, ints, mul_mono x (pos 1) a (omega (arith, ints)), mul_mono y (pos 0) b k, mul_one x, *ℤ-zero (pos y))
 
-mixed_low : (x y : ℕ) (ps qs : List ℤ) → All (λ m. pos 0 ≤ℤ m) ps → All (λ m. pos 0 ≤ℤ m) qs → All (λ m. pos 0 ≤ℤ m) (mixed (pos x) (pos y) ps qs)
+mixed_low : (x y : ℕ) (ps qs : List ℤ) → AllByRecursion (λ m. pos 0 ≤ℤ m) ps → AllByRecursion (λ m. pos 0 ≤ℤ m) qs → AllByRecursion (λ m. pos 0 ≤ℤ m) (mixed (pos x) (pos y) ps qs)
 mixed_low x y [] qs h k = tt
 mixed_low x y (p ∷ ps) [] h k = tt
 mixed_low x y (p ∷ ps) (q ∷ qs) h k = (sum_low x y p q h.0 k.0, mixed_low x y ps qs h.1 k.1)
 
-pub low_get_or : (zs : List ℤ) (k : ℕ) → All (λ m. pos 0 ≤ℤ m) zs → pos 0 ≤ℤ get_or zs k (pos 0)
+pub low_get_or : (zs : List ℤ) (k : ℕ) → AllByRecursion (λ m. pos 0 ≤ℤ m) zs → pos 0 ≤ℤ get_or zs k (pos 0)
 low_get_or [] k h = omega (arith, ints)
 low_get_or (z ∷ zs) zero h = h.0
 low_get_or (z ∷ zs) (suc k) h = low_get_or zs k h.1
@@ -59,7 +59,7 @@ weighted_weighty x y p q l hp hq = elim hp.weighty [
 pub abs_above : (z : ℤ) → pos 0 <ℤ z → 0 < nat_abs z
 abs_above z h = omega (arith, ints)
 
-pub divides_get_or : (d : ℕ) (zs : List ℤ) (k : ℕ) → All (λ z. Divides d (nat_abs z)) zs → Divides d (nat_abs (get_or zs k (pos 0)))
+pub divides_get_or : (d : ℕ) (zs : List ℤ) (k : ℕ) → AllByRecursion (λ z. Divides d (nat_abs z)) zs → Divides d (nat_abs (get_or zs k (pos 0)))
 divides_get_or d [] k h = (0, omega arith)
 divides_get_or d (z ∷ zs) zero h = h.0
 divides_get_or d (z ∷ zs) (suc k) h = divides_get_or d zs k h.1
@@ -85,7 +85,7 @@ quotient_low : (d : ℕ) (z : ℤ) → pos 0 ≤ℤ z → pos 0 ≤ℤ quot_z z 
 quotient_low d (pos n) h = omega (arith, ints)
 quotient_low d (negsuc n) h = absurd (omega (arith, ints))
 
-quotients_low : (d : ℕ) (zs : List ℤ) → All (λ m. pos 0 ≤ℤ m) zs → All (λ m. pos 0 ≤ℤ m) (quotients (pos d) zs)
+quotients_low : (d : ℕ) (zs : List ℤ) → AllByRecursion (λ m. pos 0 ≤ℤ m) zs → AllByRecursion (λ m. pos 0 ≤ℤ m) (quotients (pos d) zs)
 quotients_low d [] h = tt
 quotients_low d (z ∷ zs) h = (quotient_low d z h.0, quotients_low d zs h.1)
 
@@ -109,7 +109,7 @@ sum_content c p q h = content_above (joined_sum c p q) (sum_weighty c p q h)
 factor_small : (r : Row) (c g : ℕ) → Proper r → Within number_limit (pos (nat_abs (coefficient r c) / g))
 factor_small r c g h = factor_within (nat_abs (coefficient r c)) g (abs_within number_limit (coefficient r c) (within_get_or number_limit r.coefficients c h.coefficients))
 
-pub sum_multipliers : (c : ℕ) (p q : Row) → Proper p → Proper q → All (Within sum_limit) (joined_sum c p q).multipliers
+pub sum_multipliers : (c : ℕ) (p q : Row) → Proper p → Proper q → AllByRecursion (Within sum_limit) (joined_sum c p q).multipliers
 sum_multipliers c p q hp hq =
     let g = gcd (nat_abs (coefficient p c)) (nat_abs (coefficient q c)) in
     mixed_within (pos (nat_abs (coefficient q c) / g)) (pos (nat_abs (coefficient p c) / g)) p.multipliers q.multipliers (factor_small q c g hq) (factor_small p c g hp)

@@ -1,6 +1,6 @@
 -- The elimination of one column from a list of rows.
 use Rattle.std.specs.Prelude.{◌≡◌, ℕ, ◌+◌, ◌*◌, Bool, true, cond, ◌&&◌, List, [], ◌∷◌, ◌++◌, length, take, Ok, Err, Result, nat_le}
-use Rattle.std.specs.List.{AllByRecursion as All}
+use Rattle.std.specs.List.{AllByRecursion}
 use Rattle.elimination.specs.declared.row.Row.{Row}
 use Rattle.elimination.specs.declared.row.Stop.{Stop}
 use Rattle.elimination.specs.declared.row.Stop.TheVariants.{Crowd, Number}
@@ -53,4 +53,4 @@ Begins out answer = WhereOk (λ rows. take (length rows) out ≡ rows) answer
 
 -- rows traced to a system and a face stay so
 abbrev pub StaysTraced : ℕ → List Row → Type 0
-StaysTraced c rows = (system : List Source) (face : Source) → All (Traced system face) rows → WhereOk (All (Traced system face)) (eliminated c rows)
+StaysTraced c rows = (system : List Source) (face : Source) → AllByRecursion (Traced system face) rows → WhereOk (AllByRecursion (Traced system face)) (eliminated c rows)

@@ -1,6 +1,6 @@
 -- Rows of an elimination: their tests, their limits, and the row of two rows in which a column falls out.
 use Rattle.std.specs.Prelude.{◌≡◌, ℕ, ◌/◌, Bool, true, cond, ◌&&◌, ◌||◌, ◌⊎◌, List, [], ◌∷◌, map, length, ℤ, pos, ◌+ℤ◌, ◌*ℤ◌, ◌≤ℤ◌, ◌<ℤ◌, Ok, Err, Result, int_div, slice_index_or, unsigned_abs}
-use Rattle.std.specs.List.{AllByRecursion as All}
+use Rattle.std.specs.List.{AllByRecursion}
 use Rattle.arith.specs.Bounds.{Within, within, all_within}
 use Rattle.fourier.specs.Cone.{Vector, multiplier, scale, column, right, is_zero, is_positive, is_negative}
 use Rattle.elimination.specs.declared.row.Row.{Row}
@@ -104,11 +104,11 @@ Weighty r = (pos 0 <ℤ r.scale) ⊎ ((k : ℕ) × (pos 0 <ℤ slice_index_or r.
 pub record Proper (r : Row) : Type 0 where
   pub long : length r.multipliers ≡ 40
   pub wide : length r.coefficients ≡ 12
-  pub multipliers : All (Within multiplier_limit) r.multipliers
+  pub multipliers : AllByRecursion (Within multiplier_limit) r.multipliers
   pub scale : Within multiplier_limit r.scale
-  pub coefficients : All (Within number_limit) r.coefficients
+  pub coefficients : AllByRecursion (Within number_limit) r.coefficients
   pub right : Within number_limit r.right
-  pub multipliers_low : All (λ m. pos 0 ≤ℤ m) r.multipliers
+  pub multipliers_low : AllByRecursion (λ m. pos 0 ≤ℤ m) r.multipliers
   pub scale_low : pos 0 ≤ℤ r.scale
   pub weighty : Weighty r
 

@@ -1,6 +1,6 @@
 -- Rows that are combinations of a system's rows and of a face turned round.
 use Rattle.std.specs.Prelude.{◌≡◌, ℕ, List, map, ℤ, pos, ◌+ℤ◌, ◌*ℤ◌, int_div, slice_index_or}
-use Rattle.std.specs.List.{AllByRecursion as All}
+use Rattle.std.specs.List.{AllByRecursion}
 use Rattle.arith.specs.Products.{dot}
 use Rattle.elimination.specs.declared.row.Row.{Row}
 use Rattle.elimination.specs.Rows.{coefficient, content, joined_sum, joined_row}
@@ -31,9 +31,9 @@ Exact d z = pos d *ℤ int_div z (pos d) ≡ z
 
 -- to divide a row by d leaves no rest in any place
 pub record ExactRow (d : ℕ) (r : Row) : Type 0 where
-  pub multipliers : All (Exact d) r.multipliers
+  pub multipliers : AllByRecursion (Exact d) r.multipliers
   pub scale : Exact d r.scale
-  pub coefficients : All (Exact d) r.coefficients
+  pub coefficients : AllByRecursion (Exact d) r.coefficients
   pub right : Exact d r.right
 
 -- of two traced rows: the division of their combination leaves no rest, and their row is traced

@@ -1,6 +1,6 @@
 // The elimination of one column.
 ghost use Rattle.std.specs.Prelude.{◌≡◌, ◌+◌, ◌*◌, ◌<◌, ◌≤◌, true, map, length, take};
-ghost use Rattle.std.specs.List.{AllByRecursion as All};
+ghost use Rattle.std.specs.List.{AllByRecursion};
 ghost use Rattle.fourier.specs.Cone.{is_positive};
 ghost use Rattle.elimination.specs.Rows.{coefficient, joined_row, Proper, WhereOk};
 ghost use Rattle.elimination.specs.Columns.{most_rows, zeros, positives, negatives, pairs, extended, eliminated, counted, Begins, StaysTraced};
@@ -68,7 +68,7 @@ fn join_with(p: &Row, rows: &[Row], column: usize, out: &mut [Row], n: usize) ->
     requires inside { column < 12 }
     requires first { Proper p.now }
     requires positive { is_positive (coefficient p.now column) ≡ true }
-    requires proper { All Proper rows.now }
+    requires proper { AllByRecursion Proper rows.now }
     requires room { n + length (negatives column rows.now) ≤ length out.old }
     ensures value { result ≡ counted (extended (take n out.old) (map (joined_row column p.now) (negatives column rows.now))) }
     ensures rows { Begins out.new (extended (take n out.old) (map (joined_row column p.now) (negatives column rows.now))) }
@@ -86,7 +86,7 @@ fn join_with(p: &Row, rows: &[Row], column: usize, out: &mut [Row], n: usize) ->
 // Puts the rows of each positive row with each negative row behind the first n places of out.
 fn join_all(rows: &[Row], column: usize, out: &mut [Row], n: usize) -> Result<usize, Stop>
     requires inside { column < 12 }
-    requires proper { All Proper rows.now }
+    requires proper { AllByRecursion Proper rows.now }
     requires room { n + length (positives column rows.now) * length (negatives column rows.now) ≤ length out.old }
     ensures value { result ≡ counted (extended (take n out.old) (pairs column (positives column rows.now) (negatives column rows.now))) }
     ensures rows { Begins out.new (extended (take n out.old) (pairs column (positives column rows.now) (negatives column rows.now))) }
@@ -104,12 +104,12 @@ fn join_all(rows: &[Row], column: usize, out: &mut [Row], n: usize) -> Result<us
 // anything, as may all of them after a stop.
 pub fn eliminate(rows: &[Row], column: usize, out: &mut [Row]) -> Result<usize, Stop>
     requires inside { column < 12 }
-    requires proper { All Proper rows.now }
+    requires proper { AllByRecursion Proper rows.now }
     requires few { length rows.now ≤ most_rows }
     requires room { most_rows ≤ length out.old }
     ensures value { result ≡ counted (eliminated column rows.now) }
     ensures rows { Begins out.new (eliminated column rows.now) }
-    ensures proper { WhereOk (All Proper) (eliminated column rows.now) }
+    ensures proper { WhereOk (AllByRecursion Proper) (eliminated column rows.now) }
     ensures traced { StaysTraced column rows.now }
 {
     let signs = count_signs(rows, column);

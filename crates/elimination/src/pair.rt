@@ -1,6 +1,6 @@
 // The row of two rows, in which a column falls out.
 ghost use Rattle.std.specs.Prelude.{◌≡◌, ◌/◌, ◌<◌, ◌≤◌, true, pos, ◌+ℤ◌, ◌*ℤ◌, ◌<ℤ◌};
-ghost use Rattle.std.specs.List.{AllByRecursion as All};
+ghost use Rattle.std.specs.List.{AllByRecursion};
 ghost use Rattle.arith.specs.Bounds.{Within};
 ghost use Rattle.fourier.specs.Cone.{is_positive, is_negative};
 ghost use Rattle.elimination.specs.Rows.{number_limit, sum_limit, coefficient, weighted, divided, content, joined_sum, joined_row, judged, Proper, WhereOk};
@@ -39,7 +39,7 @@ fn weighted_sum(x: i64, p: &Row, y: i64, q: &Row) -> Row
 
 // The greatest common divisor of multipliers and scale.
 fn content_of(row: &Row) -> i64
-    requires multipliers { All (Within sum_limit) row.now.multipliers }
+    requires multipliers { AllByRecursion (Within sum_limit) row.now.multipliers }
     requires scale { Within sum_limit row.now.scale }
     ensures value { result ≡ pos (content row.now) }
 {

@@ -1,6 +1,6 @@
 -- One column: a combination in which it is 0 is, times a number above 0, one of the rows after it.
 use Rattle.std.proofs.Common.{◌≡◌, ℕ, zero, suc, ◌+◌, ◌*◌, true, cond, List, [], ◌∷◌, ◌++◌, map, ℤ, pos, negsuc, ◌+ℤ◌, ◌*ℤ◌, neg_ℤ, refl, ap, ◌∙◌, arith}
-use Rattle.std.specs.List.{AllByRecursion as All}
+use Rattle.std.specs.List.{AllByRecursion}
 use Rattle.std.proofs.ByRecursion.{All-weaker, kept_by_passes}
 use Rattle.std.proofs.lemmas.Int.{ints}
 use Rattle.arith.proofs.Ring.{ring}
@@ -61,7 +61,7 @@ module _ {X : Type 0} (at : X → Vector) where
       parts_more (at r (column c)) r (zeros at c rs) (positives at c rs) (negatives at c rs) v h.1 h.0 h.3 (parts c rs h.1 h.2)
 
   -- a positive row crossed with a combination of the negative ones
-  one : (c : ℕ) (join : X → X → X) (p : X) (qs : List X) (n : Vector) → All (λ q. Joins c (at p) (at q) (at (join p q))) qs → Cone at qs n → Cone at (map (join p) qs) (Cross c (at p) n)
+  one : (c : ℕ) (join : X → X → X) (p : X) (qs : List X) (n : Vector) → AllByRecursion (λ q. Joins c (at p) (at q) (at (join p q))) qs → Cone at qs n → Cone at (map (join p) qs) (Cross c (at p) n)
   one c join p [] n a h = λ i. rw (h i, h (column c)) (omega (arith, ints))
   one c join p (q ∷ qs) n a h = (
     h.0 * a.0.0,
@@ -71,7 +71,7 @@ module _ {X : Type 0} (at : X → Vector) where
   )
 
   -- a combination of the positive rows crossed with one of the negative ones
-  many : (c : ℕ) (join : X → X → X) (ps qs : List X) (p n : Vector) → All (λ p. All (λ q. Joins c (at p) (at q) (at (join p q))) qs) ps → Cone at ps p → Cone at qs n → Cone at (pairs join ps qs) (Cross c p n)
+  many : (c : ℕ) (join : X → X → X) (ps qs : List X) (p n : Vector) → AllByRecursion (λ p. AllByRecursion (λ q. Joins c (at p) (at q) (at (join p q))) qs) ps → Cone at ps p → Cone at qs n → Cone at (pairs join ps qs) (Cross c p n)
   many c join [] qs p n a h k = λ i. rw (h i, h (column c)) (omega (arith, ints))
   many c join (x ∷ ps) qs p n a h k =
       let here = map (join x) qs in
@@ -86,7 +86,7 @@ module _ {X : Type 0} (at : X → Vector) where
       both
 
   -- of rows with f above 0 at column c
-  sized : (c : ℕ) (f : ℤ → ℤ) → Linear f → (rs : List X) → All (λ r. Above (f (at r (column c)))) rs → (v : Vector) → Cone at rs v → Sized f c v
+  sized : (c : ℕ) (f : ℤ → ℤ) → Linear f → (rs : List X) → AllByRecursion (λ r. Above (f (at r (column c)))) rs → (v : Vector) → Cone at rs v → Sized f c v
   sized c f lin [] a v h = (0, ap f (h (column c)) ∙ lin.0, λ e. h)
   sized c f lin (r ∷ rs) a v h =
       let s = sized c f lin rs a.1 h.1 h.2 in
@@ -97,13 +97,13 @@ module _ {X : Type 0} (at : X → Vector) where
       )
 
   -- what the rows of each sign have in the column
-  positives_above : (c : ℕ) (rows : List X) → All (λ r. Above (at r (column c))) (positives at c rows)
+  positives_above : (c : ℕ) (rows : List X) → AllByRecursion (λ r. Above (at r (column c))) (positives at c rows)
   positives_above c rows = All-weaker (λ r. is_positive (at r (column c)) ≡ true) _ (λ r. above_of (at r (column c))) _ (kept_by_passes _ rows)
 
-  negatives_below : (c : ℕ) (rows : List X) → All (λ r. Above (neg_ℤ (at r (column c)))) (negatives at c rows)
+  negatives_below : (c : ℕ) (rows : List X) → AllByRecursion (λ r. Above (neg_ℤ (at r (column c)))) (negatives at c rows)
   negatives_below c rows = All-weaker (λ r. is_negative (at r (column c)) ≡ true) _ (λ r. below_of (at r (column c))) _ (kept_by_passes _ rows)
 
-  pub zeros_zero : (c : ℕ) (rows : List X) → All (λ r. at r (column c) ≡ pos 0) (zeros at c rows)
+  pub zeros_zero : (c : ℕ) (rows : List X) → AllByRecursion (λ r. at r (column c) ≡ pos 0) (zeros at c rows)
   zeros_zero c rows = All-weaker (λ r. is_zero (at r (column c)) ≡ true) _ (λ r. zero_of (at r (column c))) _ (kept_by_passes _ rows)
 
   -- t is how much of column c the positive rows bring and the negative ones take

@@ -1,7 +1,7 @@
 -- The combinations of rows are closed under sums and multiples, and a multiple that refutes shows that the rows can be refuted.
 use Rattle.std.proofs.Common.{◌≡◌, ℕ, ◌+◌, ◌*◌, ◌<◌, List, [], ◌∷◌, ◌++◌, ℤ, pos, ◌+ℤ◌, ◌*ℤ◌, sym, refl, ap, ◌∙◌, inl, inr, arith}
 use lib.IntN.{*ℤ-zero, zero-*ℤ, +ℤ_idr, +ℤ_idl}
-use Rattle.std.specs.List.{AllByRecursion as All}
+use Rattle.std.specs.List.{AllByRecursion}
 use Rattle.std.proofs.ByRecursion.{All-weaker}
 use Rattle.std.proofs.lemmas.Int.{ints}
 use Rattle.arith.proofs.Ring.{ring}
@@ -64,7 +64,7 @@ module _ {X : Type 0} (at : X → Vector) where
   cone_left (x ∷ xs) ys v h = (h.0, h.1, cone_left xs ys h.1 h.2, h.3)
 
   -- where every row has 0, so has each combination
-  pub cone_keeps_zero : (i : Place) (rows : List X) → All (λ r. at r i ≡ pos 0) rows → (v : Vector) → Cone at rows v → v i ≡ pos 0
+  pub cone_keeps_zero : (i : Place) (rows : List X) → AllByRecursion (λ r. at r i ≡ pos 0) rows → (v : Vector) → Cone at rows v → v i ≡ pos 0
   cone_keeps_zero i [] a v h = h i
   cone_keeps_zero i (r ∷ rs) a v h = h.3 i ∙ rw (a.0, cone_keeps_zero i rs a.1 h.1 h.2) (omega (arith, ints))
 
@@ -73,7 +73,7 @@ module _ {X : Type 0} (at : X → Vector) where
   multiple_refutes rows v m r = ((λ i. pos m.0 *ℤ v i), m.2, refutes_times m.0 v m.1 r)
 
   -- each row is a combination of the rows
-  pub cone_each : (rows : List X) → All (λ r. Cone at rows (at r)) rows
+  pub cone_each : (rows : List X) → AllByRecursion (λ r. Cone at rows (at r)) rows
   cone_each [] = tt
   cone_each (r ∷ rs) = (
     (1, (λ i. pos 0), cone_zero rs, λ i. omega (arith, ints)),

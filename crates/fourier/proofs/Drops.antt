@@ -1,6 +1,6 @@
 -- Slack rows: a combination that refutes still does without them.
 use Rattle.std.proofs.Common.{◌≡◌, ℕ, zero, suc, Bool, true, false, cond, ◌⊎◌, List, [], ◌∷◌, ℤ, pos, ◌+ℤ◌, ◌*ℤ◌, ◌≤ℤ◌, ◌<ℤ◌, filter, refl, ◌∙◌, inl, inr, arith}
-use Rattle.std.specs.List.{AllByRecursion as All}
+use Rattle.std.specs.List.{AllByRecursion}
 use Rattle.std.proofs.lemmas.Int.{ints}
 use Rattle.arith.proofs.Ring.{ring}
 use Rattle.fourier.specs.Cone.{Place, scale, column, right, Vector, Cone, Refutes, Refutable, Slack}
@@ -53,13 +53,13 @@ module _ {X : Type 0} (at : X → Vector) where
   slackened_more r rs w v x false f e h =
       (h.0, (λ i. pos w *ℤ at r i +ℤ h.1 i), h.2, slack_more w (at r) h.1 (f refl) h.3, λ i. e i ∙ rw (h.4 i) (simp ring))
 
-  slackened : (test : X → Bool) (rows : List X) (v : Vector) → All (λ r. test r ≡ false → Slack (at r)) rows → Cone at rows v → Slackened at (filter test rows) v
+  slackened : (test : X → Bool) (rows : List X) (v : Vector) → AllByRecursion (λ r. test r ≡ false → Slack (at r)) rows → Cone at rows v → Slackened at (filter test rows) v
   slackened test [] v a h = ((λ i. pos 0), (λ i. pos 0), (λ i. refl), slack_zero, λ i. h i)
   slackened test (r ∷ rs) v a h =
       slackened_more r (filter test rs) h.0 v h.1 (test r) a.0 h.3 (slackened test rs h.1 a.1 h.2)
 
   -- to drop slack rows loses no refutation
-  pub drop_keeps : (test : X → Bool) (rows : List X) → All (λ r. test r ≡ false → Slack (at r)) rows → Refutable at rows → Refutable at (filter test rows)
+  pub drop_keeps : (test : X → Bool) (rows : List X) → AllByRecursion (λ r. test r ≡ false → Slack (at r)) rows → Refutable at rows → Refutable at (filter test rows)
   drop_keeps test rows a h =
       let s = slackened test rows h.0 a h.1 in
       (s.0, s.2, refutes_less h.0 s.0 s.1 s.3 s.4 h.2)

@@ -1,6 +1,6 @@
 -- Rows judged in order: all pass as they are, or the first that is refused stops.
 use Rattle.std.proofs.Common.{◌≡◌, ◌⊎◌, List, [], ◌∷◌, ◌++◌, Ok, Err, Result, sym, refl, ap, ◌∙◌, inl, inr, arith}
-use Rattle.std.specs.List.{AllByRecursion as All}
+use Rattle.std.specs.List.{AllByRecursion}
 use Rattle.fourier.specs.Bounded.{Judges, and_then, all_judged, FirstRefused}
 
 module _ {X F : Type 0} (judged : X → Result X F) where
@@ -12,12 +12,12 @@ module _ {X F : Type 0} (judged : X → Result X F) where
   first_stops r rs f e = ap (λ x. and_then x (λ s. and_then (all_judged judged rs) (λ ss. Ok (s ∷ ss)))) e
 
   -- rows that pass stay as they are
-  pub judged_same : Judges judged → (rows new : List X) → all_judged judged rows ≡ Ok new → (new ≡ rows) × All (λ s. judged s ≡ Ok s) rows
+  pub judged_same : Judges judged → (rows new : List X) → all_judged judged rows ≡ Ok new → (new ≡ rows) × AllByRecursion (λ s. judged s ≡ Ok s) rows
   judged_same j [] new e = (grind arith, tt)
   judged_same j (r ∷ rs) new e = by_row (j r) (all_judged judged rs) refl (judged_same j rs)
     where
       by_row : (judged r ≡ Ok r) ⊎ ((f : F) × (judged r ≡ Err f)) → (more : Result (List X) F) → all_judged judged rs ≡ more
-          → ((ss : List X) → all_judged judged rs ≡ Ok ss → (ss ≡ rs) × All (λ s. judged s ≡ Ok s) rs) → (new ≡ r ∷ rs) × All (λ s. judged s ≡ Ok s) (r ∷ rs)
+          → ((ss : List X) → all_judged judged rs ≡ Ok ss → (ss ≡ rs) × AllByRecursion (λ s. judged s ≡ Ok s) rs) → (new ≡ r ∷ rs) × AllByRecursion (λ s. judged s ≡ Ok s) (r ∷ rs)
       by_row (inl p) (Ok ss) m same =
           let k = sym e ∙ first_passes r rs (Ok ss) p m in
           let later = same ss m in
@@ -44,6 +44,6 @@ module _ {X F : Type 0} (judged : X → Result X F) where
           let same : judged r ≡ Err f = cc in
           ([], r, rs, refl, tt, same)
 
-  pub refused_stops : (before : List X) (r : X) (after : List X) (f : F) → All (λ s. judged s ≡ Ok s) before → judged r ≡ Err f → all_judged judged (before ++ r ∷ after) ≡ Err f
+  pub refused_stops : (before : List X) (r : X) (after : List X) (f : F) → AllByRecursion (λ s. judged s ≡ Ok s) before → judged r ≡ Err f → all_judged judged (before ++ r ∷ after) ≡ Err f
   refused_stops [] r after f pass e = first_stops r after f e
   refused_stops (s ∷ before) r after f pass e = first_passes s (before ++ r ∷ after) (Err f) pass.0 (refused_stops before r after f pass.1 e)

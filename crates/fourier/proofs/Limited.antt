@@ -1,6 +1,6 @@
 -- One column with limits: what it leaves, and where it stops.
 use Rattle.std.proofs.Common.{◌≡◌, ℕ, ◌≤◌, Bool, true, false, leb, List, ◌++◌, length, Ok, Err, Result, sym, refl, ap, ◌∙◌, subst, inl, inr, arith, length-append}
-use Rattle.std.specs.List.{AllByRecursion as All}
+use Rattle.std.specs.List.{AllByRecursion}
 use Rattle.std.proofs.ByRecursion.{All-append, all_kept_by}
 use Rattle.std.proofs.lemmas.Bool.{leb-true, leb-false, le-leb, lt-leb, cond-true, cond-false}
 use Rattle.fourier.specs.Cone.{column, Vector, is_zero, is_positive, is_negative, zeros, positives, negatives, new_rows, eliminated}
@@ -26,10 +26,10 @@ module _ {X F : Type 0} (at : X → Vector) (join : ℕ → X → X → X) (judg
   column_crowded c rows t = cond-false (leb (rows_after at c rows) most) _ _ t
 
   -- a column that passes leaves the rows of the column without limits, and each new one has passed
-  pub column_same : Judges judged → (c : ℕ) (rows next : List X) → bounded_column at join judged most crowd c rows ≡ Ok next → (next ≡ eliminated at c (join c) rows) × All (λ s. judged s ≡ Ok s) (new_rows at c (join c) rows)
+  pub column_same : Judges judged → (c : ℕ) (rows next : List X) → bounded_column at join judged most crowd c rows ≡ Ok next → (next ≡ eliminated at c (join c) rows) × AllByRecursion (λ s. judged s ≡ Ok s) (new_rows at c (join c) rows)
   column_same j c rows next e = by_test (leb (rows_after at c rows) most) refl (all_judged judged (new_rows at c (join c) rows)) refl
     where
-      by_test : (t : Bool) → leb (rows_after at c rows) most ≡ t → (new : Result (List X) F) → all_judged judged (new_rows at c (join c) rows) ≡ new → (next ≡ eliminated at c (join c) rows) × All (λ s. judged s ≡ Ok s) (new_rows at c (join c) rows)
+      by_test : (t : Bool) → leb (rows_after at c rows) most ≡ t → (new : Result (List X) F) → all_judged judged (new_rows at c (join c) rows) ≡ new → (next ≡ eliminated at c (join c) rows) × AllByRecursion (λ s. judged s ≡ Ok s) (new_rows at c (join c) rows)
       by_test true t (Ok new) m =
           let k = sym e ∙ column_by c rows (Ok new) t m in
           let front : next ≡ zeros at c rows ++ new = cc in
@@ -39,12 +39,12 @@ module _ {X F : Type 0} (at : X → Vector) (join : ℕ → X → X → X) (judg
       by_test false t new m = let k = sym e ∙ column_crowded c rows t in absurd (grind arith)
 
   -- what the rows have, and the joins of two rows that pass, the rows after the column have
-  pub column_each : Judges judged → (P : X → Type 0) → Passes at join judged P → (c : ℕ) (rows next : List X) → All P rows → bounded_column at join judged most crowd c rows ≡ Ok next → All P next
+  pub column_each : Judges judged → (P : X → Type 0) → Passes at join judged P → (c : ℕ) (rows next : List X) → AllByRecursion P rows → bounded_column at join judged most crowd c rows ≡ Ok next → AllByRecursion P next
   column_each j P passes c rows next each e =
       let s = column_same j c rows next e in
       let Passed : X → Type 0 = λ r. judged r ≡ Ok r in
       let new = all_paired (λ r. Passed r → P r) (join c) _ _ (all_pairs at c P (λ p q. Passed (join c p q) → P (join c p q)) rows (passes c) each) in
-      subst (All P) (sym s.0)
+      subst (AllByRecursion P) (sym s.0)
       (All-append P (zeros at c rows) _ (all_kept_by (λ r. is_zero (at r (column c))) P rows each) (all_by_two Passed (λ r. Passed r → P r) P (λ r p f. f p) (new_rows at c (join c) rows) s.1 new))
 
   -- there are at most so many

@@ -1,6 +1,6 @@
 -- The whole run with limits: what its answers say, and where it stops.
 use Rattle.std.proofs.Common.{◌≡◌, ℕ, zero, suc, Bool, ◌⊎◌, List, Some, None, Ok, Err, filter, Option, Result, sym, refl, ap, ◌∙◌, subst, inl, inr, arith}
-use Rattle.std.specs.List.{ContainsAt as Has, AllByRecursion as All}
+use Rattle.std.specs.List.{ContainsAt as Has, AllByRecursion}
 use Rattle.std.proofs.ByRecursion.{All-weaker, all_kept_by, all_has_itself}
 use Rattle.fourier.specs.Cone.{Vector, Refutes, Refutable, Narrow, eliminated}
 use Rattle.fourier.specs.Search.{first, or_else, searched, Sane}
@@ -102,7 +102,7 @@ module _ {X F : Type 0} (at : X → Vector) (dead live : X → Bool) (join : ℕ
   stops_run n start f h = reaches_stops n start h.0 h.1 f h.2 (stops_column at join judged most crowd h.0 h.1 f h.3)
 
   -- what the start rows have, and the joins of two rows that pass, a row that is found has
-  pub run_found_each : Judges judged → (P : X → Type 0) → Passes at join judged P → (n : ℕ) (rows : List X) (r : X) → All P rows → ran n rows ≡ Found r → P r
+  pub run_found_each : Judges judged → (P : X → Type 0) → Passes at join judged P → (n : ℕ) (rows : List X) (r : X) → AllByRecursion P rows → ran n rows ≡ Found r → P r
   run_found_each j P passes zero rows r each e = by_scan (first dead rows) refl
     where
       by_scan : (o : Option X) → first dead rows ≡ o → P r
@@ -113,7 +113,7 @@ module _ {X F : Type 0} (at : X → Vector) (dead live : X → Bool) (join : ℕ
       left : List X
       left = filter live rows
 
-      by_scan : (o : Option X) → first dead rows ≡ o → (x : Result (List X) F) → one_column c left ≡ x → ((next : List X) → All P next → ran c next ≡ Found r → P r) → P r
+      by_scan : (o : Option X) → first dead rows ≡ o → (x : Result (List X) F) → one_column c left ≡ x → ((next : List X) → AllByRecursion P next → ran c next ≡ Found r → P r) → P r
       by_scan (Some s) o x m more = let k = sym e ∙ run_at_dead (suc c) rows s o in let same : s ≡ r = cc in subst P same (first_some P dead rows s each o).0
       by_scan None o (Ok next) m more =
           more next (column_each at join judged most crowd j P passes c left next (all_kept_by live P rows each) m) (sym (run_at_column c rows (Ok next) o m) ∙ e)
@@ -125,8 +125,8 @@ module _ {X F : Type 0} (at : X → Vector) (dead live : X → Bool) (join : ℕ
       run_found_each j (λ s. Has rows s ⊎ (judged s ≡ Ok s)) (λ c p q a b plus minus passed. inr passed) n rows r (All-weaker _ _ (λ s h. inl h) rows (all_has_itself rows)) e
 
   -- where judging leaves rows as they are, and tests and joins are sane
-  module _ (j : Judges judged) (Good : X → Type 0) (sane : Sane at dead live join Good) (n : ℕ) (rows : List X) (good : All Good rows) where
-    pub run_nothing_is_none : All (Narrow at n) rows → ran n rows ≡ Nothing → Refutable at rows → ⊥
+  module _ (j : Judges judged) (Good : X → Type 0) (sane : Sane at dead live join Good) (n : ℕ) (rows : List X) (good : AllByRecursion Good rows) where
+    pub run_nothing_is_none : AllByRecursion (Narrow at n) rows → ran n rows ≡ Nothing → Refutable at rows → ⊥
     run_nothing_is_none narrow e = none_is_none at dead live join Good sane n rows good narrow (run_nothing j n rows e)
 
     pub run_found_refutes : (r : X) → ran n rows ≡ Found r → Refutes (at r) × Good r × Refutable at rows

@@ -1,6 +1,6 @@
 -- The elimination without limits: no dead row means no refutation, and a row that is found is dead.
 use Rattle.std.proofs.Common.{◌≡◌, ℕ, zero, suc, ◌≤◌, Bool, true, false, ◌⊎◌, List, [], ℤ, pos, ◌+ℤ◌, ◌*ℤ◌, neg_ℤ, Some, None, filter, Option, refl, ap, ◌∙◌, subst, inl, inr, ⊎_elim, arith}
-use Rattle.std.specs.List.{AllByRecursion as All}
+use Rattle.std.specs.List.{AllByRecursion}
 use Rattle.std.proofs.ByRecursion.{All-weaker, All-append, all_kept_by}
 use Rattle.std.proofs.lemmas.Int.{ints}
 use Rattle.arith.proofs.Ring.{ring}
@@ -47,15 +47,15 @@ module _ {X : Type 0} (at : X → Vector) where
 
 module _ {X : Type 0} (at : X → Vector) (dead live : X → Bool) (join : ℕ → X → X → X) (Good : X → Type 0) (sane : Sane at dead live join Good) where
   -- the rows of the next column are good, and the column is 0 in them
-  good_next : (c : ℕ) (rows : List X) → All Good rows → All Good (eliminated at c (join c) rows)
+  good_next : (c : ℕ) (rows : List X) → AllByRecursion Good rows → AllByRecursion Good (eliminated at c (join c) rows)
   good_next c rows good =
       All-append Good (zeros at c rows) _ (all_kept_by (λ r. is_zero (at r (column c))) Good rows good)
       (all_paired Good (join c) _ _ (all_pairs at c Good (λ p q. Good (join c p q)) rows (sane.keeps c) good))
 
-  narrow_next : (c : ℕ) (rows : List X) → All Good rows → All (Narrow at (suc c)) rows → All (Narrow at c) (eliminated at c (join c) rows)
+  narrow_next : (c : ℕ) (rows : List X) → AllByRecursion Good rows → AllByRecursion (Narrow at (suc c)) rows → AllByRecursion (Narrow at c) (eliminated at c (join c) rows)
   narrow_next c rows good narrow =
       let Both : X → Type 0 = λ r. Good r × Narrow at (suc c) r in
-      let both : All Both rows = all_by_two Good (Narrow at (suc c)) Both (λ r g n. (g, n)) rows good narrow in
+      let both : AllByRecursion Both rows = all_by_two Good (Narrow at (suc c)) Both (λ r g n. (g, n)) rows good narrow in
       All-append (Narrow at c) (zeros at c rows) _
       (all_by_two (Narrow at (suc c)) (λ r. at r (column c) ≡ pos 0) (Narrow at c) (narrow_zero at c) (zeros at c rows) (all_kept_by (λ r. is_zero (at r (column c))) (Narrow at (suc c)) rows narrow) (zeros_zero at c rows))
       (all_paired (Narrow at c) (join c) _ _
@@ -63,12 +63,12 @@ module _ {X : Type 0} (at : X → Vector) (dead live : X → Bool) (join : ℕ �
       (λ p q a b plus minus. narrow_join at c p q (join c p q) (sane.joins c p q a.0 b.0 plus minus) a.1 b.1) both))
 
   -- a scan that finds no dead row loses no refutation
-  scan_keeps : (rows : List X) → All Good rows → first dead rows ≡ None → Refutable at rows → Refutable at (filter live rows)
+  scan_keeps : (rows : List X) → AllByRecursion Good rows → first dead rows ≡ None → Refutable at rows → Refutable at (filter live rows)
   scan_keeps rows good none =
       drop_keeps at live rows (all_by_two Good (λ r. dead r ≡ false) (λ r. live r ≡ false → Slack (at r)) sane.spared rows good (first_none dead rows none))
 
   -- no dead row: no combination of the rows refutes
-  pub none_is_none : (n : ℕ) (rows : List X) → All Good rows → All (Narrow at n) rows → searched at dead live join n rows ≡ None → Refutable at rows → ⊥
+  pub none_is_none : (n : ℕ) (rows : List X) → AllByRecursion Good rows → AllByRecursion (Narrow at n) rows → searched at dead live join n rows ≡ None → Refutable at rows → ⊥
   none_is_none zero rows good narrow e h =
       let empty : filter live rows ≡ [] = none_kept live rows (All-weaker (Narrow at 0) (λ r. live r ≡ false) (λ r z. sane.bare r (λ j. z j (omega arith))) rows narrow) in
       none_refutes at (subst (Refutable at) empty (scan_keeps rows good e h))
@@ -82,7 +82,7 @@ module _ {X : Type 0} (at : X → Vector) (dead live : X → Bool) (join : ℕ �
       (column_keeps at c (join c) left joins (scan_keeps rows good both.0 h))
 
   -- a row that is found is good and dead
-  pub found_is_dead : (n : ℕ) (rows : List X) (r : X) → All Good rows → searched at dead live join n rows ≡ Some r → Good r × (dead r ≡ true)
+  pub found_is_dead : (n : ℕ) (rows : List X) (r : X) → AllByRecursion Good rows → searched at dead live join n rows ≡ Some r → Good r × (dead r ≡ true)
   found_is_dead zero rows r good e = first_some Good dead rows r good e
   found_is_dead (suc c) rows r good e =
       let left = filter live rows in

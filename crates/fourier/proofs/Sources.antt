@@ -1,6 +1,6 @@
 -- Where a row comes from: one that is made of the start rows is, times a number above 0, a combination of them.
 use Rattle.std.proofs.Common.{◌≡◌, ℕ, suc, ◌*◌, Bool, true, List, ℤ, pos, ◌+ℤ◌, ◌*ℤ◌, neg_ℤ, Some, ap, ◌∙◌, mul-pos, arith}
-use Rattle.std.specs.List.{AllByRecursion as All}
+use Rattle.std.specs.List.{AllByRecursion}
 use Rattle.std.proofs.ByRecursion.{all-has, All-weaker, all_has_itself}
 use Rattle.std.proofs.lemmas.Int.{ints}
 use Rattle.arith.proofs.Ring.{ring}
@@ -46,24 +46,24 @@ module _ {X : Type 0} (at : X → Vector) (dead live : X → Bool) (join : ℕ �
     refutes = λ r a. sane.refutes r a.0;
   }
 
-  all_sourced : All Good start → All Sourced start
+  all_sourced : AllByRecursion Good start → AllByRecursion Sourced start
   all_sourced good =
       all_by_two Good (λ r. Cone at start (at r)) Sourced (λ r g h. (g, (1, omega arith, cone_same at start (at r) (λ i. pos 1 *ℤ at r i) (λ i. omega (arith, ints)) h)))
       start good (cone_each at start)
 
   -- a row that is found refutes, and so does a combination of the start rows
-  pub found_refutes : (n : ℕ) (r : X) → All Good start → searched at dead live join n start ≡ Some r → Refutes (at r) × Good r × Refutable at start
+  pub found_refutes : (n : ℕ) (r : X) → AllByRecursion Good start → searched at dead live join n start ≡ Some r → Refutes (at r) × Good r × Refutable at start
   found_refutes n r good e =
       let d = found_is_dead at dead live join Sourced sane_sourced n start r (all_sourced good) e in
       let refutes = sane.refutes r d.0.0 d.1 in
       (refutes, d.0.0, multiple_refutes at start (at r) d.0.1 refutes)
 
 -- the start rows are made of themselves
-pub all_made : {X : Type 0} (at : X → Vector) (join : ℕ → X → X → X) (start : List X) → All (Made at join start) start
+pub all_made : {X : Type 0} (at : X → Vector) (join : ℕ → X → X → X) (start : List X) → AllByRecursion (Made at join start) start
 all_made at join start = All-weaker _ (Made at join start) given start (all_has_itself start)
 
 -- what is good of the start rows is good of all that is made of them
-module _ {X : Type 0} (at : X → Vector) (dead live : X → Bool) (join : ℕ → X → X → X) (Good : X → Type 0) (sane : Sane at dead live join Good) (start : List X) (good : All Good start) where
+module _ {X : Type 0} (at : X → Vector) (dead live : X → Bool) (join : ℕ → X → X → X) (Good : X → Type 0) (sane : Sane at dead live join Good) (start : List X) (good : AllByRecursion Good start) where
   pub made_good : {r : X} → Made at join start r → Good r
   made_good (given r has) = all-has Good start r good has
   made_good (joined_of c p q h k plus minus) = sane.keeps c p q (made_good h) (made_good k) plus minus

@@ -1,6 +1,6 @@
 -- The elimination with limits: a column has at most so many rows, and each new row is judged as it is made.
 use Rattle.std.specs.Prelude.{◌≡◌, ℕ, zero, suc, ◌+◌, ◌*◌, ◌<◌, ◌≤◌, Bool, cond, ◌⊎◌, List, [], ◌∷◌, ◌++◌, length, Some, None, Ok, Err, filter, Option, Result, nat_le}
-use Rattle.std.specs.List.{AllByRecursion as All}
+use Rattle.std.specs.List.{AllByRecursion}
 use Rattle.fourier.specs.Cone.{Vector, zeros, positives, negatives, new_rows}
 use Rattle.fourier.specs.Search.{first}
 
@@ -41,7 +41,7 @@ gone_on (Err f) next = Stopped f
 -- a row of the list is refused, and those before it pass
 abbrev pub FirstRefused : {X F : Type 0} → (X → Result X F) → List X → F → Type 0
 FirstRefused {X} judged rows f =
-    (before : List X) × (r : X) × (after : List X) × (rows ≡ before ++ r ∷ after) × All (λ s. judged s ≡ Ok s) before × (judged r ≡ Err f)
+    (before : List X) × (r : X) × (after : List X) × (rows ≡ before ++ r ∷ after) × AllByRecursion (λ s. judged s ≡ Ok s) before × (judged r ≡ Err f)
 
 -- one column: how rows are read, joined and judged, the most rows after it, and the fault where there would be more
 module _ {X F : Type 0} (at : X → Vector) (join : ℕ → X → X → X) (judged : X → Result X F) (most : ℕ) (crowd : F) where

@@ -1,6 +1,6 @@
 -- Rows as vectors of integers, the combinations of rows, and what refutes a system of inequalities.
 use Rattle.std.specs.Prelude.{◌≡◌, ℕ, zero, suc, ◌<◌, ◌≤◌, Bool, true, false, ◌⊎◌, List, [], ◌∷◌, ◌++◌, map, ℤ, pos, negsuc, ◌+ℤ◌, ◌*ℤ◌, neg_ℤ, ◌≤ℤ◌, ◌<ℤ◌, filter}
-use Rattle.std.specs.List.{flat_map, AllByRecursion as All}
+use Rattle.std.specs.List.{flat_map, AllByRecursion}
 
 -- the places of a row: its multipliers, its scale, a coefficient for each column, its right side
 pub data Place : Type 0 where
@@ -75,4 +75,4 @@ eliminated at c join rows = zeros at c rows ++ new_rows at c join rows
 
 -- each positive row is joined with each negative one so that column c becomes 0
 abbrev pub Joined : {X : Type 0} → (X → Vector) → ℕ → (X → X → X) → List X → Type 0
-Joined at c join rows = All (λ p. All (λ q. Joins c (at p) (at q) (at (join p q))) (negatives at c rows)) (positives at c rows)
+Joined at c join rows = AllByRecursion (λ p. AllByRecursion (λ q. Joins c (at p) (at q) (at (join p q))) (negatives at c rows)) (positives at c rows)

@@ -1,6 +1,6 @@
 -- The rows of a case text that keeps its limits have their lengths, and the bounds of its states are in range.
 use Rattle.std.proofs.Common.{◌≡◌, ℕ, ◌+◌, ◌≤◌, List, [], ◌∷◌, length, get_or, take, drop, replicate, ℤ, pos, sym, refl, ◌∙◌, arith}
-use Rattle.std.specs.List.{AllByRecursion as All}
+use Rattle.std.specs.List.{AllByRecursion}
 use Rattle.std.proofs.ByRecursion.{All-map, All-weaker}
 use Rattle.std.proofs.lemmas.List.{length-append, length-drop, length-map, length-replicate, length-take-le}
 use Rattle.text.proofs.Forming.{fit_length}
@@ -34,7 +34,7 @@ module _ (k : CaseValues) (n m p : ℕ) (n_is : state_count k ≡ n) (m_is : k.i
     e_long = part_long (n + m) p d (omega arith) ∙ sym p-is;
   }
 
-  equations_wide : (ss ds : List (List ℤ)) → All (λ d. n + m + p ≤ length d) ds → All (EquationWide k) (equations_from n m p ss ds)
+  equations_wide : (ss ds : List (List ℤ)) → AllByRecursion (λ d. n + m + p ≤ length d) ds → AllByRecursion (EquationWide k) (equations_from n m p ss ds)
   equations_wide [] ds h = tt
   equations_wide (s ∷ ss) [] h = tt
   equations_wide (s ∷ ss) (d ∷ ds) h = (equation_wide s d h.0, equations_wide ss ds h.1)
@@ -44,7 +44,7 @@ state_range D [] k = absurd k.0
 state_range D (l ∷ []) k = absurd k.0.2
 state_range D (l ∷ h ∷ s) k = record { low_small = (k.0.0, k.0.1); high_small = (k.0.2.0, k.0.2.1) }
 
-state_ranges : (n m p : ℕ) (D : ℤ) (ss ds : List (List ℤ)) → All (RowKept state_limits (State D)) ss → All (λ s. RangeOk s.low s.high) (equations_from n m p ss ds)
+state_ranges : (n m p : ℕ) (D : ℤ) (ss ds : List (List ℤ)) → AllByRecursion (RowKept state_limits (State D)) ss → AllByRecursion (λ s. RangeOk s.low s.high) (equations_from n m p ss ds)
 state_ranges n m p D [] ds h = tt
 state_ranges n m p D (s ∷ ss) [] h = tt
 state_ranges n m p D (s ∷ ss) (d ∷ ds) h = (state_range D s h.0, state_ranges n m p D ss ds h.1)

@@ -1,7 +1,7 @@
 -- What is read keeps the limits of its controller, and means what its values mean.
 use Rattle.std.proofs.Common.{◌≡◌, ℕ, zero, suc, ◌+◌, ◌-◌, ◌≤◌, true, ◌&&◌, leb, List, [], ◌∷◌, ◌++◌, map, length, get_or, take, drop, replicate, ℤ, pos, neg_ℤ, ◌≤ℤ◌, sym, refl, ap, ◌∙◌, arith}
 use lib.Signed.{le_z}
-use Rattle.std.specs.List.{AllByRecursion as All}
+use Rattle.std.specs.List.{AllByRecursion}
 use Rattle.std.proofs.lemmas.List.{length-append, length-replicate, length-take-le, get_or-drop, take-append-le}
 use Rattle.std.proofs.lemmas.Int.{ints}
 use Rattle.std.proofs.lemmas.Bool.{and_from, le-leb, eq-eqb}
@@ -125,7 +125,7 @@ input_padded n zs h =
 
 -- The whole table.
 
-inputs_are : (n : ℕ) (rows : List (List ℤ)) → 1 ≤ length rows → length rows ≤ 2 → All (RowKept Saturated n) rows
+inputs_are : (n : ℕ) (rows : List (List ℤ)) → 1 ≤ length rows → length rows ≤ 2 → AllByRecursion (RowKept Saturated n) rows
     → take (length rows) (input_of n (get_or (stored_rows rows) 0 []) ∷ input_of n (get_or (stored_rows rows) 1 []) ∷ []) ≡ map (input_of n) rows
 inputs_are n [] low high k = absurd (omega arith)
 inputs_are n (a ∷ []) low high k = ap (λ i. i ∷ []) (input_padded n a (omega (arith, row_long n a k.0.0)))
@@ -142,7 +142,7 @@ commands_are (a ∷ b ∷ []) low high =
     ap (λ z. z ∷ get_or (padded b) 0 (pos 0) ∷ []) (padding a (row_width - length a) 0) ∙ ap (λ z. get_or a 0 (pos 0) ∷ z ∷ []) (padding b (row_width - length b) 0)
 commands_are (a ∷ b ∷ c ∷ rows) low high = absurd (omega arith)
 
-inputs_kept : (n : ℕ) (rows : List (List ℤ)) → n ≤ most_states → All (RowKept Saturated n) rows → inputs_ok (map (input_of n) rows) ≡ true
+inputs_kept : (n : ℕ) (rows : List (List ℤ)) → n ≤ most_states → AllByRecursion (RowKept Saturated n) rows → inputs_ok (map (input_of n) rows) ≡ true
 inputs_kept n [] le k = refl
 inputs_kept n (row ∷ rows) le k = and_from (input_ok (input_of n row)) _ (input_kept n row le k.0) (inputs_kept n rows le k.1)
 
@@ -150,7 +150,7 @@ command_kept : (row : List ℤ) (n : ℕ) → RowKept Fixed n row → within set
 command_kept [] n k = absurd k.0
 command_kept (u ∷ row) n k = within_at setting_limit u k.0.0 k.0.1
 
-commands_kept : (n : ℕ) (rows : List (List ℤ)) → All (RowKept Fixed n) rows → all_within setting_limit (map (λ row. get_or row 0 (pos 0)) rows) ≡ true
+commands_kept : (n : ℕ) (rows : List (List ℤ)) → AllByRecursion (RowKept Fixed n) rows → all_within setting_limit (map (λ row. get_or row 0 (pos 0)) rows) ≡ true
 commands_kept n [] k = refl
 commands_kept n (row ∷ rows) k = and_from (within setting_limit (get_or row 0 (pos 0))) _ (command_kept row n k.0) (commands_kept n rows k.1)
 
@@ -158,7 +158,7 @@ map_long : {X Y : Type 0} (f : X → Y) (xs : List X) → length (map f xs) ≡ 
 map_long f [] = refl
 map_long f (x ∷ xs) = ap suc (map_long f xs)
 
-by_kind : (kind : LawKind) (n : ℕ) (rows : List (List ℤ)) → 1 ≤ n → n ≤ most_states → 1 ≤ length rows → length rows ≤ most_inputs → All (RowKept kind n) rows
+by_kind : (kind : LawKind) (n : ℕ) (rows : List (List ℤ)) → 1 ≤ n → n ≤ most_states → 1 ≤ length rows → length rows ≤ most_inputs → AllByRecursion (RowKept kind n) rows
     → (table_ok n (length rows) (table_of kind n (stored_rows rows)) ≡ true) × (table_meaning n (length rows) (table_of kind n (stored_rows rows)) ≡ values_meaning kind n rows)
 by_kind Saturated n rows nl nh ml mh k =
     let e = inputs_are n rows ml mh k in

@@ -1,6 +1,6 @@
 -- A law text is read exactly when it is rendered.
 use Rattle.std.proofs.Common.{◌≡◌, ℕ, zero, suc, ◌+◌, ◌<◌, ◌≤◌, Bool, true, false, cond, ◌&&◌, leb, List, [], ◌∷◌, ◌++◌, length, ℤ, pos, negsuc, nat_abs, ◌≤ℤ◌, Some, None, Ok, Err, Option, Result, sym, refl, ap, ◌∙◌, subst, arith}
-use Rattle.std.specs.List.{AllByRecursion as All}
+use Rattle.std.specs.List.{AllByRecursion}
 use Rattle.std.specs.Str.{bytes_eq}
 use Rattle.std.proofs.ByRecursion.{All-append, All-weaker}
 use Rattle.std.proofs.lemmas.Slice.Eq.{bytes_eq-Decides}
@@ -180,7 +180,7 @@ line_from kind n line row rest k =
     ∙ ap (λ r. bind r (λ _. Ok (row, rest))) (cond-false _ _ _ (order_from kind n row k.1))
 
 rows_to : (kind : LawKind) (n k line : ℕ) (text : List ℕ) (rows : List (List ℤ)) (rest : List ℕ) → rows_of kind n k line text ≡ Ok (rows, rest)
-    → (text ≡ rows_before rows rest) × All (RowKept kind n) rows
+    → (text ≡ rows_before rows rest) × AllByRecursion (RowKept kind n) rows
 rows_to kind n zero line text rows rest e =
     let q = ok_same ([], text) (rows, rest) e in
     let r : [] ≡ rows = ap (λ t. t.0) q in
@@ -196,7 +196,7 @@ rows_to kind n (suc k) line text rows rest e =
     let s : b.0.1 ≡ rest = ap (λ t. t.1) q in
     rw (← r) (l.0 ∙ ap (line_before (fields_text a.0.0)) (i.0 ∙ ap (rows_before b.0.0) s), (l.1, i.1))
 
-rows_from : (kind : LawKind) (n line : ℕ) (rows : List (List ℤ)) (rest : List ℕ) → All (RowKept kind n) rows
+rows_from : (kind : LawKind) (n line : ℕ) (rows : List (List ℤ)) (rest : List ℕ) → AllByRecursion (RowKept kind n) rows
     → rows_of kind n (length rows) line (rows_before rows rest) ≡ Ok (rows, rest)
 rows_from kind n line [] rest k = refl
 rows_from kind n line (row ∷ rows) rest k =

@@ -1,6 +1,6 @@
 -- The form of a law text, said by rendering.
 use Rattle.std.specs.Prelude.{◌≡◌, ℕ, ◌+◌, ◌≤◌, true, List, [], ◌∷◌, ◌++◌, length, ℤ, pos, ◌≤ℤ◌, Ok, slice_index_or}
-use Rattle.std.specs.List.{AllByRecursion as All}
+use Rattle.std.specs.List.{AllByRecursion}
 use Rattle.text.specs.Bytes.{space}
 use Rattle.text.specs.Forms.{Iff, Fit}
 use Rattle.text.specs.Lines.{text_limit}
@@ -38,7 +38,7 @@ pub record LawKept (law : LawText) : Type 0 where
   pub states_high : law.states ≤ 4
   pub inputs_low : 1 ≤ length law.rows
   pub inputs_high : length law.rows ≤ 2
-  pub each : All (RowKept law.kind law.states) law.rows
+  pub each : AllByRecursion (RowKept law.kind law.states) law.rows
 
 -- a text is read as this law, with this rest after it, exactly when it is the law's rendering followed by the rest, the law keeps the limits, and the whole is not too long
 unfoldable pub LawForm : List ℕ → Type 0

@@ -1,7 +1,7 @@
 -- What a state aims at: the sum of three products and a constant, and its magnitude.
 use Rattle.std.proofs.Common.{◌≡◌, ℕ, ◌-◌, ◌*◌, ◌<◌, ◌≤◌, true, List, length, get_or, take, ℤ, ◌+ℤ◌, sym, ap, ◌∙◌, subst, mul-le-mul_left, arith, lit<, w64, SFits, to_z, of_z}
 use mir.Syntax.{w128}
-use Rattle.std.specs.List.{AllByRecursion as All}
+use Rattle.std.specs.List.{AllByRecursion}
 use Rattle.std.proofs.lemmas.Int.{ints, to_z-of_z}
 use Rattle.arith.specs.Bounds.{Within}
 use Rattle.arith.specs.Products.{dot}
@@ -19,7 +19,7 @@ use Rattle.motion.proofs.Stored.{front, ok_equation, held_at, equations_enough}
 use Rattle.motion.proofs.Widths.{wide_within, widened}
 
 -- the magnitude of one product
-product_small : (m width : ℕ) (row xs : List ℤ) → length xs ≤ width → row_ok width row ≡ true → All (Within m) xs → Within (entry_limit * m * width) (dot (take (length xs) row) xs)
+product_small : (m width : ℕ) (row xs : List ℤ) → length xs ≤ width → row_ok width row ≡ true → AllByRecursion (Within m) xs → Within (entry_limit * m * width) (dot (take (length xs) row) xs)
 product_small m width row xs le ok small =
     let f = front (length xs) width row le ok in
     let n : length (take (length xs) row) ≤ width = omega (arith, f.long) in
@@ -33,7 +33,7 @@ pub record Aimed (s : StateEquation) (x u w : List ℤ) (p q r t : ℤ) : Type 0
   pub sum : Within aim_limit (p +ℤ q +ℤ r +ℤ t)
   pub is : p +ℤ q +ℤ r +ℤ t ≡ aim (equation_of (length x) (length u) (length w) s) x u w
 
-pub summed : (s : StateEquation) (x u w : List ℤ) (p q r t : ℤ) → equation_ok s ≡ true → length x ≤ most_states → length u ≤ most_inputs → length w ≤ most_pushes → All (Within state_limit) x → All (Within command_limit) u → All (Within bound_limit) w → p ≡ dot (take (length x) s.a) x → q ≡ dot (take (length u) s.b) u → r ≡ dot (take (length w) s.e) w → t ≡ s.constant → Aimed s x u w p q r t
+pub summed : (s : StateEquation) (x u w : List ℤ) (p q r t : ℤ) → equation_ok s ≡ true → length x ≤ most_states → length u ≤ most_inputs → length w ≤ most_pushes → AllByRecursion (Within state_limit) x → AllByRecursion (Within command_limit) u → AllByRecursion (Within bound_limit) w → p ≡ dot (take (length x) s.a) x → q ≡ dot (take (length u) s.b) u → r ≡ dot (take (length w) s.e) w → t ≡ s.constant → Aimed s x u w p q r t
 summed s x u w p q r t ok lx lu lw vx vu vw ep eq er et =
     let k = ok_equation s ok in
     let a = subst (Within (entry_limit * state_limit * most_states)) (sym ep) (product_small state_limit most_states s.a x lx k.a_ok vx) in

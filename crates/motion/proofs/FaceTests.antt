@@ -1,7 +1,7 @@
 -- Lemmas on the test of rows and on the faces of a case.
 use Rattle.std.proofs.Common.{◌≡◌, ℕ, zero, suc, ◌+◌, ◌-◌, ◌*◌, ◌<◌, ◌≤◌, Bool, true, cond, eqb, List, [], ◌∷◌, ◌++◌, map, length, get_or, take, drop, ℤ, pos, negsuc, ◌*ℤ◌, neg_ℤ, Ok, Err, Decides, Result, sym, ap, ◌∙◌, subst, inl, inr, arith}
 use lib.Signed.{le_z}
-use Rattle.std.specs.List.{AllByRecursion as All}
+use Rattle.std.specs.List.{AllByRecursion}
 use Rattle.std.proofs.lemmas.List.{at_drop_all, at_drop_more, get_or-map, length-map}
 use Rattle.std.proofs.lemmas.Int.{ints}
 use Rattle.std.proofs.lemmas.Bool.{cases_Bool, cond-true, cond-false, eqb-true, eq-eqb, ne_eqb}
@@ -100,18 +100,18 @@ rows_passed x k (row ∷ rows) more h =
     cond-true _ _ _ p.0 ∙ rows_passed x (suc k) rows more p.1 ∙ ap (λ j. rows_test x j more) (omega arith)
 
 -- rows that pass are rows that hold
-rows_hold : (x : List ℤ) (k : ℕ) (rows : List Row) → rows_test x k rows ≡ Ok tt → All (Holds x) rows
+rows_hold : (x : List ℤ) (k : ℕ) (rows : List Row) → rows_test x k rows ≡ Ok tt → AllByRecursion (Holds x) rows
 rows_hold x k [] h = tt
 rows_hold x k (row ∷ rows) h =
     let p = passed (holds_test x row) (rows_test x (suc k) rows) (Face k) h in
     ((holds_decides x row).0 p.0, rows_hold x (suc k) rows p.1)
 
-rows_pass : (x : List ℤ) (k : ℕ) (rows : List Row) → All (Holds x) rows → rows_test x k rows ≡ Ok tt
+rows_pass : (x : List ℤ) (k : ℕ) (rows : List Row) → AllByRecursion (Holds x) rows → rows_test x k rows ≡ Ok tt
 rows_pass x k [] h = cc
 rows_pass x k (row ∷ rows) h = cond-true _ _ _ ((holds_decides x row).1 h.0) ∙ rows_pass x (suc k) rows h.1
 
 -- the number of a row that is refused
-rows_first : (x : List ℤ) (k j : ℕ) (rows : List Row) → rows_test x k rows ≡ Err (Face j) → (m : ℕ) × (j ≡ k + m) × (m < length rows) × All (Holds x) (take m rows) × (Holds x (get_or rows m no_row) → ⊥)
+rows_first : (x : List ℤ) (k j : ℕ) (rows : List Row) → rows_test x k rows ≡ Err (Face j) → (m : ℕ) × (j ≡ k + m) × (m < length rows) × AllByRecursion (Holds x) (take m rows) × (Holds x (get_or rows m no_row) → ⊥)
 rows_first x k j [] h = let z : ◌≡◌ {A = ℕ} 0 1 = cc in absurd (omega arith)
 rows_first x k j (row ∷ rows) h =
     elim (cases_Bool (holds_test x row)) [
@@ -138,7 +138,7 @@ first_failing k x r e j h =
             long = eqb-true _ _ p;
             low = omega (arith, q.1);
             high = omega (arith, q.1, q.2);
-            before = subst (λ i. All (Holds x) (take i (faces k))) m q.3;
+            before = subst (λ i. AllByRecursion (Holds x) (take i (faces k))) m q.3;
             fails = subst (λ i. Holds x (get_or (faces k) i no_row) → ⊥) m q.4;
           })
       | inr p ↦ (let q = sym (cond-false _ _ _ p) ∙ sym e ∙ h in let z : ◌≡◌ {A = ℕ} 0 1 = cc in absurd (omega arith))

@@ -1,7 +1,7 @@
 -- One turn of the loop that sums the products of a row.
 use Rattle.std.proofs.Common.{◌≡◌, ℕ, ◌+◌, ◌*◌, ◌<◌, ◌≤◌, List, length, get_or, drop, ℤ, pos, ◌+ℤ◌, ◌*ℤ◌, sym, ap, ◌∙◌, subst, arith, lit<, w64, SFits, to_z, of_z}
 use mir.Syntax.{w128}
-use Rattle.std.specs.List.{AllByRecursion as All}
+use Rattle.std.specs.List.{AllByRecursion}
 use Rattle.std.proofs.ByRecursion.{All-get_or}
 use Rattle.std.proofs.lemmas.Int.{ints, to_z-of_z}
 use Rattle.arith.specs.Bounds.{Within}
@@ -26,7 +26,7 @@ pub record Turn (a b : List ℤ) (i : ℕ) (s p : ℤ) : Type 0 where
   pub s_fits : SFits w128 (s +ℤ p)
   pub summed : Summed a b (i + 1) (s +ℤ p)
 
-pub turn : (a b : List ℤ) (i : ℕ) (s p : ℤ) → i < length a → length a ≡ length b → length a ≤ most_states → All (Within entry_limit) a → SFits w64 (get_or b i (pos 0)) → p ≡ get_or a i (pos 0) *ℤ get_or b i (pos 0) → Summed a b i s → Turn a b i s p
+pub turn : (a b : List ℤ) (i : ℕ) (s p : ℤ) → i < length a → length a ≡ length b → length a ≤ most_states → AllByRecursion (Within entry_limit) a → SFits w64 (get_or b i (pos 0)) → p ≡ get_or a i (pos 0) *ℤ get_or b i (pos 0) → Summed a b i s → Turn a b i s p
 turn a b i s p lt e le va f is sum =
     let lb : i < length b = omega arith in
     let w = product_within entry_limit value_limit (get_or a i (pos 0)) (get_or b i (pos 0)) (All-get_or (Within entry_limit) a i (pos 0) lt va) (value_within _ f) in

@@ -1,7 +1,7 @@
 -- What a case stores keeps its limits.
 use Rattle.std.proofs.Common.{◌≡◌, ℕ, zero, suc, ◌-◌, ◌<◌, ◌≤◌, true, ◌&&◌, eqb, List, [], ◌∷◌, map, length, get_or, take, ℤ, pos, sym, ap, ◌∙◌, subst, arith}
 use lib.Signed.{le_z}
-use Rattle.std.specs.List.{AllByRecursion as All}
+use Rattle.std.specs.List.{AllByRecursion}
 use Rattle.std.proofs.ByRecursion.{All-take}
 use Rattle.std.proofs.lemmas.List.{length-map, length-take-le, get_or-map, get_or-take}
 use Rattle.std.proofs.lemmas.Bool.{and_parts, eqb-true}
@@ -22,7 +22,7 @@ no_extra = record { coefficients = []; right = pos 0 }
 -- the first n entries of a row
 pub record Front (n : ℕ) (row : List ℤ) : Type 0 where
   pub long : length (take n row) ≡ n
-  pub small : All (Within entry_limit) (take n row)
+  pub small : AllByRecursion (Within entry_limit) (take n row)
 
 pub front : (n width : ℕ) (row : List ℤ) → n ≤ width → row_ok width row ≡ true → Front n row
 front n width row le e =
@@ -34,14 +34,14 @@ front n width row le e =
 pub record Sliced (n : ℕ) (row : List ℤ) : Type 0 where
   pub same : length (take (n - 0) row) ≡ n
   pub few : length (take (n - 0) row) ≤ most_states
-  pub small : All (Within entry_limit) (take (n - 0) row)
+  pub small : AllByRecursion (Within entry_limit) (take (n - 0) row)
 
 pub sliced : (n width : ℕ) (row : List ℤ) → n ≤ width → width ≤ most_states → row_ok width row ≡ true → Sliced n row
 sliced n width row le few ok =
     let f = front n width row le ok in
     let e = front_slice n row in
     let l = ap length e ∙ f.long in
-    record { same = l; few = omega arith; small = subst (All (Within entry_limit)) (sym e) f.small }
+    record { same = l; few = omega arith; small = subst (AllByRecursion (Within entry_limit)) (sym e) f.small }
 
 -- the limits of an extra face and of an equation
 pub extra_row : (f : ExtraFace) → extra_ok f ≡ true → row_ok most_states f.coefficients ≡ true

@@ -1,6 +1,6 @@
 -- The test of a state against the faces of a case.
 use Rattle.std.specs.Prelude.{◌≡◌, ℕ, suc, ◌-◌, ◌≤◌, Bool, cond, List, [], ◌∷◌, length, take, ℤ, Ok, Err, Result, ◌==◌, int_le, slice_index_or}
-use Rattle.std.specs.List.{AllByRecursion as All}
+use Rattle.std.specs.List.{AllByRecursion}
 use Rattle.arith.specs.Products.{dot}
 use Rattle.control.specs.Answers.{no_row}
 use Rattle.control.specs.Cover.{Holds}
@@ -28,5 +28,5 @@ pub record FirstFailing (k : CaseValues) (x : List ℤ) (j : ℕ) : Type 0 where
   pub long : length x ≡ state_count k
   pub low : 1 ≤ j
   pub high : j ≤ length (faces k)
-  pub before : All (Holds x) (take (j - 1) (faces k))
+  pub before : AllByRecursion (Holds x) (take (j - 1) (faces k))
   pub fails : Holds x (slice_index_or (faces k) (j - 1) no_row) → ⊥

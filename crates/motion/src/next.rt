@@ -1,6 +1,6 @@
 // The next value of a state: what it aims at, and the values that its rounding permits.
 ghost use Rattle.std.specs.Prelude.{◌≡◌, ◌<◌, ◌≤◌, true, length, pos, ◌+ℤ◌, ◌*ℤ◌, ◌≤ℤ◌, IfSome, slice_index_or};
-ghost use Rattle.std.specs.List.{AllByRecursion as All};
+ghost use Rattle.std.specs.List.{AllByRecursion};
 ghost use Rattle.arith.specs.Bounds.{Within};
 ghost use Rattle.control.specs.Limits.{most_states, most_inputs, state_limit, command_limit};
 ghost use Rattle.case.specs.Limits.{most_pushes, bound_limit, equation_ok};
@@ -60,9 +60,9 @@ fn aim_of(s: StateEquation, x: &[i64], u: &[i64], w: &[i64]) -> i64
     requires states { length x.now ≤ most_states }
     requires inputs { length u.now ≤ most_inputs }
     requires pushes { length w.now ≤ most_pushes }
-    requires small_x { All (Within state_limit) x.now }
-    requires small_u { All (Within command_limit) u.now }
-    requires small_w { All (Within bound_limit) w.now }
+    requires small_x { AllByRecursion (Within state_limit) x.now }
+    requires small_u { AllByRecursion (Within command_limit) u.now }
+    requires small_w { AllByRecursion (Within bound_limit) w.now }
     ensures value { result ≡ aim (equation_of (length x.now) (length u.now) (length w.now) s) x.now u.now w.now }
     ensures bound { Within aim_limit result }
 {
@@ -78,9 +78,9 @@ pub fn aimed(case: &Case, state: usize, x: &[i64], u: &[i64], w: &[i64]) -> i64
     requires states { length x.now ≡ case.now.states }
     requires inputs { length u.now ≡ case.now.inputs }
     requires pushes { length w.now ≡ case.now.pushes }
-    requires small_x { All (Within state_limit) x.now }
-    requires small_u { All (Within command_limit) u.now }
-    requires small_w { All (Within bound_limit) w.now }
+    requires small_x { AllByRecursion (Within state_limit) x.now }
+    requires small_u { AllByRecursion (Within command_limit) u.now }
+    requires small_w { AllByRecursion (Within bound_limit) w.now }
     ensures value { result ≡ aim (slice_index_or (values_of case.now).equations state no_equation) x.now u.now w.now }
     ensures bound { Within aim_limit result }
 {

@@ -1,6 +1,6 @@
 // Sums of products in which one list is any list of values.
 ghost use Rattle.std.specs.Prelude.{◌≡◌, ◌≤◌, length, ◌*ℤ◌};
-ghost use Rattle.std.specs.List.{AllByRecursion as All};
+ghost use Rattle.std.specs.List.{AllByRecursion};
 ghost use Rattle.arith.specs.Bounds.{Within};
 ghost use Rattle.arith.specs.Products.{dot};
 ghost use Rattle.control.specs.Limits.{most_states};
@@ -17,7 +17,7 @@ fn product(a: i64, b: i64) -> i128
 pub(crate) fn row_product(entries: &[i64], values: &[i64]) -> i128
     requires same { length entries.now ≡ length values.now }
     requires few { length entries.now ≤ most_states }
-    requires small { All (Within entry_limit) entries.now }
+    requires small { AllByRecursion (Within entry_limit) entries.now }
     ensures { result ≡ dot entries.now values.now }
 {
     let mut sum = 0;

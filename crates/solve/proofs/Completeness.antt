@@ -1,7 +1,7 @@
 -- A proof of the face is a combination of the start rows that refutes.
 use Rattle.std.proofs.Common.{◌≡◌, ℕ, zero, suc, ◌⊎◌, List, [], ◌∷◌, ◌++◌, map, length, get_or, ℤ, pos, negsuc, ◌+ℤ◌, ◌*ℤ◌, neg_ℤ, nat_abs, ◌≤ℤ◌, ◌<ℤ◌, sym, refl, ap, ◌∙◌, inl, inr, arith}
 use lib.IntN.{*ℤ-zero}
-use Rattle.std.specs.List.{AllByRecursion as All}
+use Rattle.std.specs.List.{AllByRecursion}
 use Rattle.std.proofs.lemmas.Int.{ints}
 use Rattle.arith.specs.Products.{dot}
 use Rattle.arith.proofs.Ring.{*ℤ_neg}
@@ -42,7 +42,7 @@ more_step w m r c d x u em er eu = rw (em, er, eu) (omega (arith, ints))
 more_scale : (w : ℕ) (u x : ℤ) → u ≡ x → pos w *ℤ pos 0 +ℤ u ≡ x
 more_scale w u x e = omega (arith, ints, *ℤ-zero (pos w))
 
-pub combined : (i : ℕ) (rs : List Inequality) (last : Row) (ms : List ℤ) (s : ℤ) → length ms ≡ length rs → All (λ m. pos 0 ≤ℤ m) ms → pos 0 ≤ℤ s → Combined (system_rows i rs ++ (last ∷ [])) (map source rs) last ms s
+pub combined : (i : ℕ) (rs : List Inequality) (last : Row) (ms : List ℤ) (s : ℤ) → length ms ≡ length rs → AllByRecursion (λ m. pos 0 ≤ℤ m) ms → pos 0 ≤ℤ s → Combined (system_rows i rs ++ (last ∷ [])) (map source rs) last ms s
 combined i [] last [] s e low ls =
     let w = natural s ls in
     record {

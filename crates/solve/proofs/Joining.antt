@@ -2,7 +2,7 @@
 use Rattle.std.proofs.Common.{◌≡◌, ℕ, zero, suc, ◌*◌, ◌/◌, ◌<◌, ◌≤◌, Bool, true, false, not, ◌&&◌, ◌||◌, ◌⊎◌, List, length, get_or, ℤ, pos, negsuc, ◌+ℤ◌, ◌*ℤ◌, neg_ℤ, nat_abs, ◌≤ℤ◌, ◌<ℤ◌, sym, refl, ap, ◌∙◌, ap₂, inl, inr, mul-pos, arith}
 use lib.IntN.{*ℤ-zero, +ℤ_comm}
 use lib.Signed.{quot_z}
-use Rattle.std.specs.List.{AllByRecursion as All}
+use Rattle.std.specs.List.{AllByRecursion}
 use Rattle.std.proofs.ByRecursion.{All-from_get_or}
 use Rattle.std.proofs.lemmas.List.{length-map}
 use Rattle.std.proofs.lemmas.Int.{ints, by_lt_z}
@@ -28,7 +28,7 @@ use Rattle.solve.proofs.Start.{Idle}
 pub record Good (sources : List Source) (face : Source) (n : ℕ) (r : Row) : Type 0 where
   pub long : length r.multipliers ≡ 40
   pub wide : length r.coefficients ≡ 12
-  pub multipliers_low : All (λ m. pos 0 ≤ℤ m) r.multipliers
+  pub multipliers_low : AllByRecursion (λ m. pos 0 ≤ℤ m) r.multipliers
   pub scale_low : pos 0 ≤ℤ r.scale
   pub weighty : Weighty r
   pub traced : Traced sources face r

@@ -1,7 +1,7 @@
 -- Lemmas on lists read place by place: zeros behind, sums of columns, products with a unit.
 use Rattle.std.proofs.Common.{◌≡◌, ℕ, zero, suc, ◌-◌, ◌<◌, ◌≤◌, List, [], ◌∷◌, ◌++◌, map, length, get_or, take, ℤ, pos, ◌+ℤ◌, ◌*ℤ◌, neg_ℤ, ◌≤ℤ◌, sym, refl, ap, ◌∙◌, arith}
 use lib.IntN.{*ℤ-zero, zero-*ℤ}
-use Rattle.std.specs.List.{AllByRecursion as All}
+use Rattle.std.specs.List.{AllByRecursion}
 use Rattle.std.proofs.ByRecursion.{All-append}
 use Rattle.std.proofs.lemmas.List.{length-append, length-map, length-replicate, get_or-set_other}
 use Rattle.std.proofs.lemmas.Int.{ints}
@@ -32,10 +32,10 @@ get_d_front (x ∷ xs) n (suc j) = get_d_front xs n j
 pub padded_long : (width : ℕ) (xs : List ℤ) → length xs ≤ width → length (padded width xs) ≡ width
 padded_long width xs l = length-append xs (none (width - length xs)) ∙ omega (arith, length-replicate (width - length xs) (pos 0))
 
-pub padded_within : (m width : ℕ) (xs : List ℤ) → All (Within m) xs → All (Within m) (padded width xs)
+pub padded_within : (m width : ℕ) (xs : List ℤ) → AllByRecursion (Within m) xs → AllByRecursion (Within m) (padded width xs)
 padded_within m width xs h = All-append (Within m) xs (none (width - length xs)) h (zeros_within m (width - length xs))
 
-pub zeros_low : (n : ℕ) → All (λ m. pos 0 ≤ℤ m) (none n)
+pub zeros_low : (n : ℕ) → AllByRecursion (λ m. pos 0 ≤ℤ m) (none n)
 zeros_low zero = tt
 zeros_low (suc n) = (omega (arith, ints), zeros_low n)
 
@@ -79,7 +79,7 @@ abbrev pub source : Inequality → Source
 source r = record { coefficients = r.coefficients; right = r.right }
 
 -- the sums of a proof as products
-pub column_at : (width : ℕ) (ms : List ℤ) (rows : List Inequality) (j : ℕ) → All (RowLimits width) rows → get_or (column_sums width ms rows) j (pos 0) ≡ dot ms (map (source_at j) (map source rows))
+pub column_at : (width : ℕ) (ms : List ℤ) (rows : List Inequality) (j : ℕ) → AllByRecursion (RowLimits width) rows → get_or (column_sums width ms rows) j (pos 0) ≡ dot ms (map (source_at j) (map source rows))
 column_at width [] rows j l = get_or_none width j
 column_at width (m ∷ ms) [] j l = get_or_none width j
 column_at width (m ∷ ms) (r ∷ rs) j l =

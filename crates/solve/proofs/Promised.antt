@@ -1,6 +1,6 @@
 -- The promise, from the facts on the start rows, on joining, and on rows that refute.
 use Rattle.std.proofs.Common.{◌≡◌, ℕ, ◌+◌, ◌-◌, ◌≤◌, Bool, true, false, cond, ◌&&◌, eqb, ◌⊎◌, List, map, length, get_or, ℤ, pos, ◌≤ℤ◌, Ok, Err, sym, refl, ◌∙◌, subst, inl, inr, arith}
-use Rattle.std.specs.List.{ContainsAt as Has, AllByRecursion as All}
+use Rattle.std.specs.List.{ContainsAt as Has, AllByRecursion}
 use Rattle.std.proofs.ByRecursion.{All-append, All-get_or, all-has, All-take, All-weaker}
 use Rattle.std.proofs.lemmas.List.{length-append, length-replicate}
 use Rattle.std.proofs.lemmas.Bool.{and_parts, eqb-true}
@@ -55,7 +55,7 @@ passed_allowed r e = by_test (allowed r) refl e
 
 -- multipliers and scale within their limit
 abbrev Small : Row → Type 0
-Small r = All (Within multiplier_limit) r.multipliers × Within multiplier_limit r.scale
+Small r = AllByRecursion (Within multiplier_limit) r.multipliers × Within multiplier_limit r.scale
 
 allowed_small : (r : Row) → allowed r ≡ true → Small r
 allowed_small r e =
@@ -65,7 +65,7 @@ allowed_small r e =
 
 module _ (k : CaseValues) (rows : List Inequality) (face : Inequality) (startable : Startable k rows face) where
   -- the start rows are good
-  pub start_good : All (Good (map source rows) (turned_source k face) (length rows)) (start_rows k rows face)
+  pub start_good : AllByRecursion (Good (map source rows) (turned_source k face) (length rows)) (start_rows k rows face)
   start_good =
       let start = start_rows k rows face in
       let Says = Traced (map source rows) (turned_source k face) in
@@ -97,7 +97,7 @@ module _ {c : Case} {m : Meaning} {region face : ℕ} (asked : Asked c m region 
   face_ready : FaceReady c m region face
   face_ready = record { ready = there; limits = asked.limits; there = asked.face_there }
 
-  rows_small : All (RowLimits (column_count k)) (system_of k m region)
+  rows_small : AllByRecursion (RowLimits (column_count k)) (system_of k m region)
   rows_small = found.system_small c m region there asked.limits
 
   face_right_small : Within right_limit (face_of k face).right

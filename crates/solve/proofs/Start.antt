@@ -1,7 +1,7 @@
 -- What holds of the start rows: limits, signs, and that each is what its multipliers and scale say.
 use Rattle.std.proofs.Common.{◌≡◌, ℕ, suc, ◌+◌, ◌<◌, ◌≤◌, List, [], ◌∷◌, map, length, get_or, ℤ, pos, neg_ℤ, ◌≤ℤ◌, ◌<ℤ◌, ap, ◌∙◌, inl, inr, arith}
 use lib.IntN.{zero-*ℤ}
-use Rattle.std.specs.List.{AllByRecursion as All}
+use Rattle.std.specs.List.{AllByRecursion}
 use Rattle.std.proofs.ByRecursion.{All-push, All-map, All-weaker, All-set}
 use Rattle.std.proofs.lemmas.List.{length-map, length-set, length-replicate, get_or_past, get_or-set_same}
 use Rattle.std.proofs.lemmas.Int.{ints}
@@ -25,9 +25,9 @@ use Rattle.solve.proofs.Places.{get_or_none, get_d_front, padded_long, padded_wi
 pub record Startable (k : CaseValues) (rows : List Inequality) (face : Inequality) : Type 0 where
   pub few : length rows ≤ most_system_rows
   pub narrow : column_count k ≤ most_columns
-  pub each : All (RowLimits (column_count k)) rows
+  pub each : AllByRecursion (RowLimits (column_count k)) rows
   pub face_long : length (face_over_next k face) ≡ column_count k
-  pub face_small : All (Within coefficient_limit) (face_over_next k face)
+  pub face_small : AllByRecursion (Within coefficient_limit) (face_over_next k face)
   pub face_right : Within right_limit face.right
 
 -- the turned face as a source
@@ -39,7 +39,7 @@ abbrev pub Idle : ℕ → Row → Type 0
 Idle n r = (i : ℕ) → n ≤ i → get_or r.multipliers i (pos 0) ≡ pos 0
 
 -- a fact of each row of the system, from its place and its limits
-each_row : (P : Row → Type 0) (width top k : ℕ) (rs : List Inequality) → k + length rs ≤ top → ((i : ℕ) (r : Inequality) → i < top → RowLimits width r → P (system_row i r)) → All (RowLimits width) rs → All P (system_rows k rs)
+each_row : (P : Row → Type 0) (width top k : ℕ) (rs : List Inequality) → k + length rs ≤ top → ((i : ℕ) (r : Inequality) → i < top → RowLimits width r → P (system_row i r)) → AllByRecursion (RowLimits width) rs → AllByRecursion P (system_rows k rs)
 each_row P width top k [] l f h = tt
 each_row P width top k (r ∷ rs) l f h = (f k r (omega arith) h.0, each_row P width top (suc k) rs (omega arith) f h.1)
 
@@ -93,20 +93,20 @@ module _ (k : CaseValues) (rows : List Inequality) (face : Inequality) (startabl
         weighty = inl (omega (arith, ints));
       }
 
-  pub start_proper : All Proper (start_rows k rows face)
+  pub start_proper : AllByRecursion Proper (start_rows k rows face)
   start_proper =
       All-push Proper (system_rows 0 rows) (turned_face k face)
       (each_row Proper (column_count k) most_system_rows 0 rows (omega (arith, startable.few)) (λ i r l h. system_row_proper (column_count k) i r startable.narrow l h) startable.each) turned_proper
 
   -- 0 from the last column on
-  pub start_narrow : All (Narrow at (column_count k)) (start_rows k rows face)
+  pub start_narrow : AllByRecursion (Narrow at (column_count k)) (start_rows k rows face)
   start_narrow =
       All-push (Narrow at (column_count k)) (system_rows 0 rows) (turned_face k face)
       (each_row (Narrow at (column_count k)) (column_count k) (length rows) 0 rows (omega arith) (λ i r l h j n. get_d_front r.coefficients _ j ∙ get_or_past r.coefficients j (pos 0) (omega (arith, h.wide))) startable.each)
       (λ j n. get_d_front turned _ j ∙ get_or_past turned j (pos 0) (omega (arith, turned_long)))
 
   -- 0 behind the multipliers of the system's rows
-  pub start_idle : All (Idle (length rows)) (start_rows k rows face)
+  pub start_idle : AllByRecursion (Idle (length rows)) (start_rows k rows face)
   start_idle =
       All-push (Idle (length rows)) (system_rows 0 rows) (turned_face k face)
       (each_row (Idle (length rows)) (column_count k) (length rows) 0 rows (omega arith) (λ i r l h j n. unit_others most_system_rows i j (pos 1) (λ e. omega arith)) startable.each)
@@ -122,7 +122,7 @@ module _ (k : CaseValues) (rows : List Inequality) (face : Inequality) (startabl
   once : (i : ℕ) (part : Source → ℤ) (r : Inequality) → i < most_system_rows → get_or (map part Sources) i (pos 0) ≡ part (source r) → part (source r) ≡ summed part Sources (turned_source k face) (system_row i r)
   once i part r l e = omega (arith, ints, e, unit_dot most_system_rows i (map part Sources) l, zero-*ℤ (part (turned_source k face)))
 
-  rows_traced : (i : ℕ) (rs : List Inequality) → i + length rs ≤ most_system_rows → ((part : Source → ℤ) (j : ℕ) → get_or (map part Sources) (i + j) (pos 0) ≡ get_or (map part (map source rs)) j (pos 0)) → All Says (system_rows i rs)
+  rows_traced : (i : ℕ) (rs : List Inequality) → i + length rs ≤ most_system_rows → ((part : Source → ℤ) (j : ℕ) → get_or (map part Sources) (i + j) (pos 0) ≡ get_or (map part (map source rs)) j (pos 0)) → AllByRecursion Says (system_rows i rs)
   rows_traced i [] l h = tt
   rows_traced i (r ∷ rs) l h =
       let here = λ (part : Source → ℤ). once i part r (omega arith) (ap (λ n. get_or (map part Sources) n (pos 0)) (omega arith) ∙ h part 0) in (
@@ -133,7 +133,7 @@ module _ (k : CaseValues) (rows : List Inequality) (face : Inequality) (startabl
   alone : (part : Source → ℤ) → part (turned_source k face) ≡ summed part Sources (turned_source k face) (turned_face k face)
   alone part = omega (arith, ints, dot_zero most_system_rows (map part Sources))
 
-  pub start_traced : All Says (start_rows k rows face)
+  pub start_traced : AllByRecursion Says (start_rows k rows face)
   start_traced =
       All-push Says (system_rows 0 rows) (turned_face k face)
       (rows_traced 0 rows (omega (arith, startable.few)) (λ part j. ap (λ n. get_or (map part Sources) n (pos 0)) (omega arith)))

@@ -1,6 +1,6 @@
 -- Every row of a case's system keeps the limits of a row: its length, its coefficients and its right side.
 use Rattle.std.proofs.Common.{◌≡◌, ℕ, suc, ◌+◌, List, [], ◌∷◌, ◌++◌, map, length, take, ℤ, pos, negsuc, ◌+ℤ◌, ◌-ℤ◌, ◌*ℤ◌, neg_ℤ, sym, ◌∙◌, subst, arith}
-use Rattle.std.specs.List.{AllByRecursion as All}
+use Rattle.std.specs.List.{AllByRecursion}
 use Rattle.std.proofs.ByRecursion.{All-append, All-map, All-take, All-weaker, All-set}
 use Rattle.std.proofs.lemmas.List.{length-append, length-map, length-replicate}
 use Rattle.std.proofs.lemmas.Int.{ints}
@@ -22,7 +22,7 @@ use Rattle.system.proofs.Stored.{RangeOk, EquationOk, ExtraOk, ok_bounds, states
 
 -- a coefficient list within its limit
 abbrev Small : List ℤ → Type 0
-Small cs = All (Within coefficient_limit) cs
+Small cs = AllByRecursion (Within coefficient_limit) cs
 
 zeros : (n : ℕ) → Small (none n)
 zeros n = zeros_within coefficient_limit n
@@ -50,9 +50,9 @@ pub record EquationSmall (s : StateEquation) : Type 0 where
 
 pub record CaseSmall (k : CaseValues) : Type 0 where
   pub divisor_small : Within coefficient_limit k.divisor
-  pub equations_small : All EquationSmall k.equations
-  pub bounds_small : All (λ b. RangeOk b.low b.high) k.bounds
-  pub extra_small : All (λ f. Small f.coefficients × Within right_limit f.right) k.extra
+  pub equations_small : AllByRecursion EquationSmall k.equations
+  pub bounds_small : AllByRecursion (λ b. RangeOk b.low b.high) k.bounds
+  pub extra_small : AllByRecursion (λ f. Small f.coefficients × Within right_limit f.right) k.extra
 
 -- rows over the first columns
 front_limits : (width more total : ℕ) (c : List ℤ) (r : ℤ) → width + more ≡ total → RowLimits width (record { coefficients = c; right = r }) → RowLimits total (record { coefficients = c ++ none more; right = r })
@@ -66,7 +66,7 @@ front_limits width more total c r e l =
 unit_limits : (n i : ℕ) (z r : ℤ) → Within coefficient_limit z → Within right_limit r → RowLimits n (record { coefficients = unit n i z; right = r })
 unit_limits n i z r v w = record { wide = unit_long n i z; small = unit_small n i z v; right_small = w }
 
-box_limits : (n i : ℕ) (ss : List StateEquation) → All EquationSmall ss → All (RowLimits n) (box_faces n i ss)
+box_limits : (n i : ℕ) (ss : List StateEquation) → AllByRecursion EquationSmall ss → AllByRecursion (RowLimits n) (box_faces n i ss)
 box_limits n i [] ok = tt
 box_limits n i (s ∷ ss) ok = (
   unit_limits n i (pos 1) s.high plus_one (bound_wider _ ok.0.range.high_small),
@@ -76,11 +76,11 @@ box_limits n i (s ∷ ss) ok = (
   ),
 )
 
-extra_limits : (n : ℕ) (fs : List ExtraFace) → All (λ f. length f.coefficients ≡ n) fs → All (λ f. Small f.coefficients × Within right_limit f.right) fs → All (RowLimits n) (map extra_face fs)
+extra_limits : (n : ℕ) (fs : List ExtraFace) → AllByRecursion (λ f. length f.coefficients ≡ n) fs → AllByRecursion (λ f. Small f.coefficients × Within right_limit f.right) fs → AllByRecursion (RowLimits n) (map extra_face fs)
 extra_limits n [] wide ok = tt
 extra_limits n (f ∷ fs) wide ok = (record { wide = wide.0; small = ok.0.0; right_small = ok.0.1 }, extra_limits n fs wide.1 ok.1)
 
-push_limits : (k : CaseValues) (j : ℕ) (bs : List PushBounds) → All (λ b. RangeOk b.low b.high) bs → All (RowLimits (column_count k)) (push_rows k j bs)
+push_limits : (k : CaseValues) (j : ℕ) (bs : List PushBounds) → AllByRecursion (λ b. RangeOk b.low b.high) bs → AllByRecursion (RowLimits (column_count k)) (push_rows k j bs)
 push_limits k j [] ok = tt
 push_limits k j (b ∷ bs) ok =
     let n = state_count k in
@@ -96,7 +96,7 @@ push_limits k j (b ∷ bs) ok =
       (one (negsuc 0) (neg_ℤ b.low) minus_one (negated_within right_limit _ (bound_wider _ ok.0.low_small)), push_limits k (suc j) bs ok.1),
     )
 
-next_limits : (k : CaseValues) → Within coefficient_limit k.divisor → (i : ℕ) (ss : List StateEquation) → All (EquationWide k) ss → All EquationSmall ss → All (RowLimits (column_count k)) (next_rows k i ss)
+next_limits : (k : CaseValues) → Within coefficient_limit k.divisor → (i : ℕ) (ss : List StateEquation) → AllByRecursion (EquationWide k) ss → AllByRecursion EquationSmall ss → AllByRecursion (RowLimits (column_count k)) (next_rows k i ss)
 next_limits k d i [] wide ok = tt
 next_limits k d i (s ∷ ss) wide ok =
     let n = state_count k in
@@ -119,7 +119,7 @@ next_limits k d i (s ∷ ss) wide ok =
       ),
     )
 
-limits_of : (k : CaseValues) → Wide k → CaseSmall k → (region : List Row) → All (RowLimits (state_count k + k.inputs)) region → All (RowLimits (column_count k)) (system k (faces k) region)
+limits_of : (k : CaseValues) → Wide k → CaseSmall k → (region : List Row) → AllByRecursion (RowLimits (state_count k + k.inputs)) region → AllByRecursion (RowLimits (column_count k)) (system k (faces k) region)
 limits_of k wide ok region small =
     let n = state_count k in
     let N = column_count k in
@@ -165,5 +165,5 @@ case_small c =
     }
 
 -- every row of the system has a coefficient for each column, and each number is within its limit
-pub system_limits : (c : Case) (region : List Row) → All (RowLimits (c.states + c.inputs)) region → All (RowLimits (column_count (values_of c))) (system (values_of c) (faces (values_of c)) region)
-system_limits c region small = limits_of (values_of c) (case_wide c) (case_small c) region (subst (λ n. All (RowLimits (n + c.inputs)) region) (sym (states_are c)) small)
+pub system_limits : (c : Case) (region : List Row) → AllByRecursion (RowLimits (c.states + c.inputs)) region → AllByRecursion (RowLimits (column_count (values_of c))) (system (values_of c) (faces (values_of c)) region)
+system_limits c region small = limits_of (values_of c) (case_wide c) (case_small c) region (subst (λ n. AllByRecursion (RowLimits (n + c.inputs)) region) (sym (states_are c)) small)

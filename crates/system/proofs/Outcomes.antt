@@ -1,6 +1,6 @@
 -- The answers, case by case, for every case and every meaning of a controller.
 use Rattle.std.proofs.Common.{◌≡◌, ℕ, ◌+◌, ◌-◌, ◌*◌, ◌≤◌, Bool, true, false, cond, eqb, ltb, ◌⊎◌, [], length, Ok, Err, sym, refl, ap, ◌∙◌, subst, inl, inr, arith}
-use Rattle.std.specs.List.{AllByRecursion as All}
+use Rattle.std.specs.List.{AllByRecursion}
 use Rattle.std.proofs.ByRecursion.{All-get_or, All-weaker}
 use Rattle.std.proofs.lemmas.Bool.{and_parts, and_left, and_right, and_from, ltb-true, eqb-true, eq-eqb, ne_eqb}
 use Rattle.control.specs.declared.fault.ControlFault.{ControlFault}
@@ -54,10 +54,10 @@ pub few_rows : (m : Meaning) → Limits m → (k n : ℕ) → Ok n ≡ rows_answ
 few_rows m limits k n e = let t = counted m k n e in omega (arith, t.1, (region_limits m limits k t.0).few)
 
 -- the rows of a region of a controller with the sizes of the case
-pub rows_limits : (c : Case) (m : Meaning) → Limits m → m.states ≡ c.states → m.inputs ≡ c.inputs → (k : ℕ) → present m.regions k ≡ true → All (RowLimits (c.states + c.inputs)) (region_of m k)
+pub rows_limits : (c : Case) (m : Meaning) → Limits m → m.states ≡ c.states → m.inputs ≡ c.inputs → (k : ℕ) → present m.regions k ≡ true → AllByRecursion (RowLimits (c.states + c.inputs)) (region_of m k)
 rows_limits c m limits e f k there =
     let w : m.states + m.inputs ≡ c.states + c.inputs = omega arith in
-    subst (λ n. All (RowLimits n) (region_of m k)) w (region_limits m limits k there).each
+    subst (λ n. AllByRecursion (RowLimits n) (region_of m k)) w (region_limits m limits k there).each
 
 pub region_bridge : (c : Case) (m : Meaning) → Limits m → m.states ≡ c.states → m.inputs ≡ c.inputs → (k : ℕ) → present m.regions k ≡ true → Bridge (values_of c) (region_of m k)
 region_bridge c m limits e f k there =

@@ -1,6 +1,6 @@
 -- Which rows of a system hold: row group by row group.
 use Rattle.std.proofs.Common.{◌≡◌, ℕ, suc, ◌+◌, ◌<◌, List, [], ◌∷◌, ◌++◌, map, length, get_or, drop, ℤ, pos, negsuc, ◌+ℤ◌, ◌-ℤ◌, ◌*ℤ◌, neg_ℤ, ◌≤ℤ◌, sym, ap, ◌∙◌, subst, arith, drop-cons}
-use Rattle.std.specs.List.{AllByRecursion as All}
+use Rattle.std.specs.List.{AllByRecursion}
 use Rattle.std.proofs.lemmas.List.{drop_all, length-append, length-map, length-replicate, length-set}
 use Rattle.std.proofs.lemmas.Int.{ints}
 use Rattle.arith.specs.Products.{dot}
@@ -20,7 +20,7 @@ abbrev pub Same : Type 0 → Type 0 → Type 0
 Same A B = (A → B) × (B → A)
 
 -- a list of two parts
-pub all_append_parts : {X : Type 0} (P : X → Type 0) (xs ys : List X) → All P (xs ++ ys) → All P xs × All P ys
+pub all_append_parts : {X : Type 0} (P : X → Type 0) (xs ys : List X) → AllByRecursion P (xs ++ ys) → AllByRecursion P xs × AllByRecursion P ys
 all_append_parts P [] ys h = (tt, h)
 all_append_parts P (x ∷ xs) ys h = let t = all_append_parts P xs ys h.1 in ((h.0, t.0), t.1)
 
@@ -32,7 +32,7 @@ pub dot_back : (r : ℕ) (c x z : List ℤ) → length x ≡ r → dot (none r +
 dot_back r c x z e = dot_append (none r) c x z (length-replicate r (pos 0) ∙ sym e) ∙ omega (arith, ints, dot_zero r x)
 
 -- rows over the first variables, read over all of them
-pub widened : (f : Row → Row) (v : List ℤ) (V : List ℤ) → ((r : Row) → length r.coefficients ≡ length v → Same (Holds v r) (Holds V (f r))) → (rows : List Row) → All (λ r. length r.coefficients ≡ length v) rows → Same (All (Holds v) rows) (All (Holds V) (map f rows))
+pub widened : (f : Row → Row) (v : List ℤ) (V : List ℤ) → ((r : Row) → length r.coefficients ≡ length v → Same (Holds v r) (Holds V (f r))) → (rows : List Row) → AllByRecursion (λ r. length r.coefficients ≡ length v) rows → Same (AllByRecursion (Holds v) rows) (AllByRecursion (Holds V) (map f rows))
 widened f v V each [] wide = ((λ h. h), (λ h. h))
 widened f v V each (r ∷ rows) wide =
     let one = each r wide.0 in
@@ -46,14 +46,14 @@ dot_push k j o v w y ev ew lt =
     let wide : length (unit p j o) ≡ length w = length-set (none p) j o ∙ length-replicate p (pos 0) ∙ sym ew in
     dot_back (state_count k + k.inputs) (unit p j o ++ none (state_count k)) v (w ++ y) ev ∙ dot_front (unit p j o) w y (state_count k) wide ∙ dot_unit p j o w lt ew
 
-pub pushes_same : (k : CaseValues) (v w y : List ℤ) → length v ≡ state_count k + k.inputs → length w ≡ push_count k → (j : ℕ) (bs : List PushBounds) → j + length bs ≡ push_count k → Same (AllBounded bs (drop j w)) (All (Holds (v ++ (w ++ y))) (push_rows k j bs))
+pub pushes_same : (k : CaseValues) (v w y : List ℤ) → length v ≡ state_count k + k.inputs → length w ≡ push_count k → (j : ℕ) (bs : List PushBounds) → j + length bs ≡ push_count k → Same (AllBounded bs (drop j w)) (AllByRecursion (Holds (v ++ (w ++ y))) (push_rows k j bs))
 pushes_same k v w y ev ew j [] e = subst (λ ws. Same (AllBounded [] ws) (Unit {0})) (sym (drop_all j w (omega arith))) ((λ h. h), (λ h. h))
 pushes_same k v w y ev ew j (b ∷ bs) e =
     let lt : j < length w = omega arith in
     let high = dot_push k j (pos 1) v w y ev ew (omega arith) in
     let low = dot_push k j (negsuc 0) v w y ev ew (omega arith) in
     let rest = pushes_same k v w y ev ew (suc j) bs (omega arith) in
-    let P : List ℤ → Type 0 = λ ws. Same (AllBounded (b ∷ bs) ws) (All (Holds (v ++ (w ++ y))) (push_rows k j (b ∷ bs))) in
+    let P : List ℤ → Type 0 = λ ws. Same (AllBounded (b ∷ bs) ws) (AllByRecursion (Holds (v ++ (w ++ y))) (push_rows k j (b ∷ bs))) in
     subst P (sym (drop-cons w j (pos 0) lt)) (
       (λ h. (omega (arith, ints, high, h.1), (omega (arith, ints, low, h.0), rest.0 h.2))),
       (λ h. (omega (arith, ints, low, h.1.0), omega (arith, ints, high, h.0), rest.1 h.1.1)),
@@ -97,7 +97,7 @@ rows_permit D r c a b e y h = (high_row (D *ℤ y) r c a b e h.1, rw neg-*ℤ (l
 permit_rows : (D r c a b e y : ℤ) → (negsuc 0 *ℤ (a +ℤ (b +ℤ e)) +ℤ D *ℤ y) ≤ℤ (c +ℤ r) → (pos 1 *ℤ (a +ℤ (b +ℤ e)) +ℤ neg_ℤ D *ℤ y) ≤ℤ (r -ℤ c) → Permits D r (a +ℤ b +ℤ e +ℤ c) y
 permit_rows D r c a b e y h l = (row_low (D *ℤ y) r c a b e (rw neg-*ℤ at l), row_high (D *ℤ y) r c a b e h)
 
-pub nexts_same : (k : CaseValues) (x u w y : List ℤ) → length x ≡ state_count k → length u ≡ k.inputs → length w ≡ push_count k → length y ≡ state_count k → (i : ℕ) (ss : List StateEquation) → All (EquationWide k) ss → i + length ss ≡ state_count k → Same (AllPermitted k.divisor ss x u w (drop i y)) (All (Holds ((x ++ (u ++ w)) ++ y)) (next_rows k i ss))
+pub nexts_same : (k : CaseValues) (x u w y : List ℤ) → length x ≡ state_count k → length u ≡ k.inputs → length w ≡ push_count k → length y ≡ state_count k → (i : ℕ) (ss : List StateEquation) → AllByRecursion (EquationWide k) ss → i + length ss ≡ state_count k → Same (AllPermitted k.divisor ss x u w (drop i y)) (AllByRecursion (Holds ((x ++ (u ++ w)) ++ y)) (next_rows k i ss))
 nexts_same k x u w y ex eu ew ey i [] wide e = subst (λ ys. Same (AllPermitted k.divisor [] x u w ys) (Unit {0})) (sym (drop_all i y (omega arith))) ((λ h. h), (λ h. h))
 nexts_same k x u w y ex eu ew ey i (s ∷ ss) wide e =
     let V = (x ++ (u ++ w)) ++ y in
@@ -109,7 +109,7 @@ nexts_same k x u w y ex eu ew ey i (s ∷ ss) wide e =
     let rest = nexts_same k x u w y ex eu ew ey (suc i) ss wide.1 (omega arith) in
     let to = rows_permit D s.leeway s.constant (dot s.a x) (dot s.b u) (dot s.e w) at in
     let from = permit_rows D s.leeway s.constant (dot s.a x) (dot s.b u) (dot s.e w) at in
-    let P : List ℤ → Type 0 = λ ys. Same (AllPermitted D (s ∷ ss) x u w ys) (All (Holds V) (next_rows k i (s ∷ ss))) in
+    let P : List ℤ → Type 0 = λ ys. Same (AllPermitted D (s ∷ ss) x u w ys) (AllByRecursion (Holds V) (next_rows k i (s ∷ ss))) in
     subst P (sym (drop-cons y i (pos 0) lt)) (
       (λ h. let t = to h.0 in (subst (λ z. z ≤ℤ (s.constant +ℤ s.leeway)) (sym up) t.0, (subst (λ z. z ≤ℤ (s.leeway -ℤ s.constant)) (sym down) t.1, rest.0 h.1))),
       (λ h. (from (subst (λ z. z ≤ℤ (s.constant +ℤ s.leeway)) up h.0) (subst (λ z. z ≤ℤ (s.leeway -ℤ s.constant)) down h.1.0), rest.1 h.1.1)),

@@ -1,7 +1,7 @@
 -- What the limits of a case give for its values.
 use Rattle.std.proofs.Common.{◌≡◌, ℕ, ◌≤◌, true, ◌&&◌, eqb, List, [], ◌∷◌, length, take, ℤ, pos, ◌≤ℤ◌, sym, ◌∙◌, arith}
 use lib.Signed.{le_z}
-use Rattle.std.specs.List.{AllByRecursion as All}
+use Rattle.std.specs.List.{AllByRecursion}
 use Rattle.std.proofs.ByRecursion.{All-map, All-take, All-weaker}
 use Rattle.std.proofs.lemmas.List.{length-map, length-take-le}
 use Rattle.std.proofs.lemmas.Bool.{and_parts, eqb-true}
@@ -24,7 +24,7 @@ pub record RangeOk (low high : ℤ) : Type 0 where
 
 pub record RowOk (width : ℕ) (row : List ℤ) : Type 0 where
   pub long : length row ≡ width
-  pub small : All (Within entry_limit) row
+  pub small : AllByRecursion (Within entry_limit) row
 
 pub record EquationOk (s : StateEquation) : Type 0 where
   pub range : RangeOk s.low s.high
@@ -75,15 +75,15 @@ ok_extra f t =
     let p = and_parts (row_ok most_states f.coefficients) (within extra_limit f.right) t in
     record { row = ok_row most_states f.coefficients p.0; right_small = within_from_test extra_limit f.right p.1 }
 
-pub ok_equations : (ss : List StateEquation) → all_equations_ok ss ≡ true → All EquationOk ss
+pub ok_equations : (ss : List StateEquation) → all_equations_ok ss ≡ true → AllByRecursion EquationOk ss
 ok_equations [] t = tt
 ok_equations (s ∷ ss) t = let p = and_parts (equation_ok s) (all_equations_ok ss) t in (ok_equation s p.0, ok_equations ss p.1)
 
-pub ok_bounds : (bs : List PushBounds) → all_bounds_ok bs ≡ true → All (λ b. RangeOk b.low b.high) bs
+pub ok_bounds : (bs : List PushBounds) → all_bounds_ok bs ≡ true → AllByRecursion (λ b. RangeOk b.low b.high) bs
 ok_bounds [] t = tt
 ok_bounds (b ∷ bs) t = let p = and_parts (bounds_ok b) (all_bounds_ok bs) t in (ok_range b.low b.high p.0, ok_bounds bs p.1)
 
-pub ok_extras : (fs : List ExtraFace) → all_extras_ok fs ≡ true → All ExtraOk fs
+pub ok_extras : (fs : List ExtraFace) → all_extras_ok fs ≡ true → AllByRecursion ExtraOk fs
 ok_extras [] t = tt
 ok_extras (f ∷ fs) t = let p = and_parts (extra_ok f) (all_extras_ok fs) t in (ok_extra f p.0, ok_extras fs p.1)
 
@@ -113,10 +113,10 @@ equation_wide c s ok =
       e_long = front_long c.pushes most_pushes s.e ok.e_ok c.counts.0 ∙ sym (pushes_are c);
     }
 
-pub stored_equations : (c : Case) → All EquationOk (take c.states c.equations)
+pub stored_equations : (c : Case) → AllByRecursion EquationOk (take c.states c.equations)
 stored_equations c = All-take EquationOk c.states c.equations (ok_equations c.equations c.limits.0)
 
-pub stored_extras : (c : Case) → All ExtraOk (take c.extras c.extra)
+pub stored_extras : (c : Case) → AllByRecursion ExtraOk (take c.extras c.extra)
 stored_extras c = All-take ExtraOk c.extras c.extra (ok_extras c.extra c.limits.2)
 
 pub case_wide : (c : Case) → Wide (values_of c)

@@ -1,6 +1,6 @@
 // Lists of coefficients: zeros, one number among zeros, and a multiple of other coefficients.
 ghost use Rattle.std.specs.Prelude.{◌≡◌, ◌<◌, map, length, ◌*ℤ◌};
-ghost use Rattle.std.specs.List.{AllByRecursion as All};
+ghost use Rattle.std.specs.List.{AllByRecursion};
 ghost use Rattle.arith.specs.Bounds.{Within};
 ghost use Rattle.control.specs.Limits.{coefficient_limit};
 ghost use Rattle.case.specs.Faces.{unit};
@@ -28,7 +28,7 @@ pub(crate) fn fill_unit(place: usize, value: i64, coefficients: &mut [i64])
 pub(crate) fn fill_scaled(sign: i64, values: &[i64], coefficients: &mut [i64])
     requires same { length values.now ≡ length coefficients.old }
     requires sign { Within 1 sign }
-    requires small { All (Within coefficient_limit) values.now }
+    requires small { AllByRecursion (Within coefficient_limit) values.now }
     ensures { coefficients.new ≡ map (λ z. sign *ℤ z) values.now }
 {
     for i in 0..values.len() {

@@ -3,7 +3,7 @@ use Rattle.std.proofs.Common.{◌≡◌, ℕ, zero, suc, ◌+◌, ◌<◌, Bool,
 use lib.Signed.{le_z}
 use Rattle.std.specs.Option.{option_map}
 use Rattle.std.specs.Int.Digits.{digits_of}
-use Rattle.std.specs.List.{AllByRecursion as All}
+use Rattle.std.specs.List.{AllByRecursion}
 use Rattle.std.specs.Str.{bytes_eq}
 use Rattle.std.proofs.ByRecursion.{All-append}
 use Rattle.std.proofs.lemmas.Slice.Eq.{bytes_eq-Decides}
@@ -27,7 +27,7 @@ use Rattle.text.proofs.Render.{to_render, from_render}
 
 -- every byte is above this one
 abbrev pub Above : ℕ → List ℕ → Type 0
-Above at bs = All (λ b. at < b) bs
+Above at bs = AllByRecursion (λ b. at < b) bs
 
 pub above_from_test : (at : ℕ) (bs : List ℕ) → all_above at bs ≡ true → Above at bs
 above_from_test at [] e = tt

@@ -1,6 +1,6 @@
 -- The proof of `test_equations`: what the search leaves.
 use Rattle.std.proofs.Common.{◌≡◌, ℕ, ◌+◌, ◌-◌, ◌≤◌, true, ◌++◌, length, drop, sym, ap, ◌∙◌, subst, arith, w64, SFits, rules}
-use Rattle.std.specs.List.{AllByRecursion as All}
+use Rattle.std.specs.List.{AllByRecursion}
 use Rattle.std.proofs.lemmas.List.{length-append}
 use Rattle.std.proofs.lemmas.Int.{to_z-of_z}
 use Rattle.arith.specs.Bounds.{Within}
@@ -67,7 +67,7 @@ first_unequal-requires g c =
       long = ap length sums ∙ sums_long t c.args.multipliers.now c.add_up-sum.ensures.columns ∙ ap (λ z. v.states + v.inputs + v.pushes + z) (sym (ap length front ∙ face_long t));
       few = omega (arith, ap length sums, sums_long t c.args.multipliers.now c.add_up-sum.ensures.columns, case_columns v, columns_few v);
       scale = subst (Within multiplier_limit) (sym (to_z-of_z w64 _ c.ranges.scale)) (limited_within c.args.scale ((decides_in_limit c.args.scale).0 c.requires.scale));
-      small = subst (All (Within coefficient_limit)) (sym front) (face_small t);
+      small = subst (AllByRecursion (Within coefficient_limit)) (sym front) (face_small t);
     }
 
 pub returns-in-Some : goal.returns-in-Some

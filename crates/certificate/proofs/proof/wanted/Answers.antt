@@ -1,6 +1,6 @@
 -- The proof of `wanted`: what the search leaves.
 use Rattle.std.proofs.Common.{ℕ, ◌-◌, ◌<◌, List, length, get_or, ℤ, pos, sym, ◌∙◌, arith, lit<}
-use Rattle.std.specs.List.{AllByRecursion as All}
+use Rattle.std.specs.List.{AllByRecursion}
 use Rattle.std.proofs.ByRecursion.{All-get_or}
 use Rattle.std.proofs.lemmas.Int.{ints}
 use Rattle.arith.specs.Bounds.{Within}
@@ -10,7 +10,7 @@ use Rattle.certificate.proofs.Adding.{Computed, computed}
 use Rattle.certificate.proofs.Columns.{wanted_before, wanted_after}
 use Rattle.certificate.proofs.proof.wanted.Goals as goal
 
-at_place : (scale : ℤ) (face : List ℤ) (i : ℕ) → i < length face → Within multiplier_limit scale → All (Within coefficient_limit) face → Computed (pos 0) scale (get_or face i (pos 0))
+at_place : (scale : ℤ) (face : List ℤ) (i : ℕ) → i < length face → Within multiplier_limit scale → AllByRecursion (Within coefficient_limit) face → Computed (pos 0) scale (get_or face i (pos 0))
 at_place scale face i lt limit small =
     computed 0 multiplier_limit coefficient_limit (pos 0) scale (get_or face i (pos 0)) (lit< tt) (lit< tt) (lit< tt) (omega (arith, ints), omega (arith, ints)) limit
     (All-get_or (Within coefficient_limit) face i (pos 0) lt small)

@@ -1,6 +1,6 @@
 -- The proof of `add_scaled`: what the search leaves.
 use Rattle.std.proofs.Common.{◌≡◌, ℕ, ◌*◌, ◌<◌, ◌≢◌, List, length, get_or, ℤ, pos, ◌+ℤ◌, ◌*ℤ◌, sym, ap, ◌∙◌, subst, arith, lit<, get_or-set_other, get_or-set_same, w64, to_z, of_z, below_more}
-use Rattle.std.specs.List.{AllByRecursion as All}
+use Rattle.std.specs.List.{AllByRecursion}
 use Rattle.std.proofs.ByRecursion.{All-get_or}
 use Rattle.std.proofs.lemmas.List.{ext_get_or, length-map, get_or-map}
 use Rattle.std.proofs.lemmas.Int.{to_z-of_z}
@@ -17,7 +17,7 @@ abbrev room : ℕ
 room = most_system_rows * (multiplier_limit * coefficient_limit)
 
 -- the entry at i, where the sums from i on are as they were
-module _ (cs was sums : List ℤ) (i : ℕ) (m : ℤ) (same : length cs ≡ length was) (lt : i < length was) (e : get_or sums i (pos 0) ≡ get_or was i (pos 0)) (limit : Within multiplier_limit m) (small : All (Within coefficient_limit) cs) (fits : All (Within room) was) where
+module _ (cs was sums : List ℤ) (i : ℕ) (m : ℤ) (same : length cs ≡ length was) (lt : i < length was) (e : get_or sums i (pos 0) ≡ get_or was i (pos 0)) (limit : Within multiplier_limit m) (small : AllByRecursion (Within coefficient_limit) cs) (fits : AllByRecursion (Within room) was) where
   at_was : to_z w64 (of_z w64 (get_or sums i (pos 0))) ≡ get_or was i (pos 0)
   at_was = ap (λ z. to_z w64 (of_z w64 z)) e ∙ to_z-of_z w64 (get_or was i (pos 0)) (sfits_within room (get_or was i (pos 0)) (lit< tt) (All-get_or (Within room) was i (pos 0) lt fits))
 

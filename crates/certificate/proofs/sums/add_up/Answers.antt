@@ -1,6 +1,6 @@
 -- The proof of `add_up`: what the search leaves.
 use Rattle.std.proofs.Common.{◌≡◌, ℕ, ◌+◌, ◌-◌, ◌<◌, ◌≤◌, true, List, ◌++◌, length, get_or, drop, ℤ, pos, sym, refl, ap, ◌∙◌, subst, arith, w64, to_z, of_z}
-use Rattle.std.specs.List.{AllByRecursion as All}
+use Rattle.std.specs.List.{AllByRecursion}
 use Rattle.std.proofs.lemmas.List.{length-append, length-replicate, take_at}
 use Rattle.arith.specs.Bounds.{Within}
 use Rattle.control.specs.Answers.{present}
@@ -74,7 +74,7 @@ add_scaled-requires g c =
     record {
       same = ap length part ∙ (turn_row t row).wide ∙ sym c.loop-i.invariant.long;
       multiplier = multiplier_within t;
-      small = subst (All (Within coefficient_limit)) (sym part) (turn_row t row).small;
+      small = subst (AllByRecursion (Within coefficient_limit)) (sym part) (turn_row t row).small;
       room = sums_within t;
     }
 

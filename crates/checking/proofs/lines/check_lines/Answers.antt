@@ -34,7 +34,7 @@ returns-in_err-check_line g c =
 pub overflow_add-line : goal.overflow_add-line
 overflow_add-line g c =
     let short = rest_shorter c.loop-rest.rest.now c.in-Some.bytes.now c.in-Some.after.now c.in-Some.ensures in
-    record { fits = omega (arith, short, c.loop-rest.invariant.0, c.args.case.now.short.0, c.args.case.now.short.1) }
+    record { fits = omega (arith, short, c.loop-rest.invariant.0, c.requires.short.0, c.requires.short.1) }
 
 pub loop-rest-smaller : goal.loop-rest-smaller
 loop-rest-smaller g c = omega (arith, rest_shorter c.loop-rest.rest.now c.in-Some.bytes.now c.in-Some.after.now c.in-Some.ensures)

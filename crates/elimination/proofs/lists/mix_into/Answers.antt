@@ -1,12 +1,12 @@
 -- The proof of `mix_into`: what the search leaves.
 use Rattle.std.proofs.Common.{ℕ, List, get_or, ℤ, pos, arith}
-use Rattle.std.specs.List.{AllByRecursion as All}
+use Rattle.std.specs.List.{AllByRecursion}
 use Rattle.arith.specs.Bounds.{Within}
 use Rattle.elimination.specs.Rows.{number_limit}
 use Rattle.elimination.proofs.Mixed.{SumFits, sum_of, within_get_or, code_product_fits, code_sum_fits, mixed_more, mixed_done}
 use Rattle.elimination.proofs.lists.mix_into.Goals as goal
 
-at_place : (x y : ℤ) (p q : List ℤ) (k : ℕ) → Within number_limit x × Within number_limit y → All (Within number_limit) p × All (Within number_limit) q → SumFits x (get_or p k (pos 0)) y (get_or q k (pos 0))
+at_place : (x y : ℤ) (p q : List ℤ) (k : ℕ) → Within number_limit x × Within number_limit y → AllByRecursion (Within number_limit) p × AllByRecursion (Within number_limit) q → SumFits x (get_or p k (pos 0)) y (get_or q k (pos 0))
 at_place x y p q k f v = sum_of x (get_or p k (pos 0)) y (get_or q k (pos 0)) f.0 (within_get_or number_limit p k v.0) f.1 (within_get_or number_limit q k v.1)
 
 pub overflow_mul-out : goal.overflow_mul-out

@@ -1,6 +1,6 @@
 -- The proof of `combine`: what the search leaves.
 use Rattle.std.proofs.Common.{◌<◌, ℤ, pos, ◌<ℤ◌, sym, subst, arith, w64, SFits, rules}
-use Rattle.std.specs.List.{AllByRecursion as All}
+use Rattle.std.specs.List.{AllByRecursion}
 use Rattle.std.proofs.lemmas.Int.{ints, to_z-of_z}
 use Rattle.arith.specs.Bounds.{Within}
 use Rattle.elimination.specs.declared.row.Row.{Row}
@@ -10,7 +10,7 @@ use Rattle.elimination.proofs.pair.combine.Goals as goal
 
 pub content_of-requires : goal.content_of-requires
 content_of-requires c = record {
-  multipliers = subst (λ (r : Row). All (Within sum_limit) r.multipliers) (sym c.join_sum-sum.ensures.value) (sum_multipliers c.args.column c.args.p.now c.args.q.now c.requires.first c.requires.second);
+  multipliers = subst (λ (r : Row). AllByRecursion (Within sum_limit) r.multipliers) (sym c.join_sum-sum.ensures.value) (sum_multipliers c.args.column c.args.p.now c.args.q.now c.requires.first c.requires.second);
   scale = subst (λ (r : Row). Within sum_limit r.scale) (sym c.join_sum-sum.ensures.value) (sum_scale c.args.column c.args.p.now c.args.q.now c.requires.first c.requires.second);
 }
 

@@ -1,6 +1,6 @@
 -- The proof of `Fixed::row`: what the search leaves.
 use Rattle.std.proofs.Common.{◌-◌, ◌/◌, ◌<◌, length, get_or, take, replicate, pos, Ok, sym, ap, ◌∙◌, subst, inl, inr, arith, w64, SFits, rules}
-use Rattle.std.specs.List.{AllByRecursion as All}
+use Rattle.std.specs.List.{AllByRecursion}
 use Rattle.std.proofs.lemmas.List.{length-replicate}
 use Rattle.std.proofs.lemmas.Int.{ints, to_z-of_z}
 use Rattle.std.proofs.lemmas.Bool.{eq-eqb, ne_eqb}
@@ -55,7 +55,7 @@ fill_row-requires c =
     let sg = ap (λ t. t.sign) (code_line s.inputs s.commands (c.args.row - 1) _ lt f c.fixed_line-line.ensures) ∙ line_sign (take s.inputs s.commands) (c.args.row - 1) in
     record {
       room = omega (arith, ap length z, length-replicate s.states (pos 0));
-      small = subst (All (Within coefficient_limit)) (sym z) (zeros_within coefficient_limit s.states);
+      small = subst (AllByRecursion (Within coefficient_limit)) (sym z) (zeros_within coefficient_limit s.states);
       sign = (omega (arith, ints, sg), omega (arith, ints, sg));
     }
 

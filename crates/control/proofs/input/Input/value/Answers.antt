@@ -1,6 +1,6 @@
 -- The proof of `Input::value`: what the search leaves.
 use Rattle.std.proofs.Common.{length, ◌+ℤ◌, sym, ap, ◌∙◌, subst, arith, w64, SFits, rules}
-use Rattle.std.specs.List.{AllByRecursion as All}
+use Rattle.std.specs.List.{AllByRecursion}
 use Rattle.std.proofs.lemmas.Int.{to_z-of_z}
 use Rattle.arith.specs.Bounds.{Within}
 use Rattle.arith.specs.Products.{dot}
@@ -16,7 +16,7 @@ dot_product-requires c =
     let ok = ok_input i c.requires.limits in
     let e = front_slice n i.gains in
     let l = ap length e ∙ gains_long n i c.requires.few ok in
-    record { same = l; few = omega (arith, c.requires.few); first = subst (All (Within coefficient_limit)) (sym e) (gains_within n i ok); second = c.requires.small }
+    record { same = l; few = omega (arith, c.requires.few); first = subst (AllByRecursion (Within coefficient_limit)) (sym e) (gains_within n i ok); second = c.requires.small }
 
 pub overflow_add-result : goal.overflow_add-result
 overflow_add-result c =

@@ -1,6 +1,6 @@
 -- The proof of `Saturated::row`: what the search leaves.
 use Rattle.std.proofs.Common.{◌-◌, ◌<◌, ◌≤◌, length, get_or, take, Ok, sym, ap, ◌∙◌, subst, inl, inr, arith, w64, SFits, rules}
-use Rattle.std.specs.List.{AllByRecursion as All}
+use Rattle.std.specs.List.{AllByRecursion}
 use Rattle.std.proofs.lemmas.Int.{to_z-of_z}
 use Rattle.std.proofs.lemmas.Bool.{eq-eqb, ne_eqb}
 use Rattle.arith.specs.Bounds.{Within}
@@ -51,7 +51,7 @@ fill_row-requires c =
     let e = front_slice s.states i.gains in
     record {
       room = omega (arith, ap length e, gains_long s.states i s.sizes.1 ok, c.placed-placed.ensures.input);
-      small = subst (All (Within coefficient_limit)) (sym e) (gains_within s.states i ok);
+      small = subst (AllByRecursion (Within coefficient_limit)) (sym e) (gains_within s.states i ok);
       sign = c.placed-placed.ensures.sign;
     }
 
