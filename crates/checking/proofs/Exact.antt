@@ -11,6 +11,7 @@ use Rattle.text.specs.Forms.{Fit}
 use Rattle.text.specs.Lines.{bind, place, next_number, after_field, numbers_of}
 use Rattle.text.specs.Render.{fields_text}
 use Rattle.text.specs.declared.faults.TextFault.{TextFault}
+use Rattle.text.specs.declared.faults.TextFault.TheVariants.{Size}
 use Rattle.text.specs.declared.number.Limit.{Limit}
 use Rattle.text.proofs.Forming.{bind_ok, ok_same, numbers_to, numbers_from, fit_length}
 use Rattle.control.specs.Answers.{present}

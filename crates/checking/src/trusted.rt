@@ -3,7 +3,7 @@ ghost use Rattle.std.specs.Prelude.{◌≡◌, IfOk, OnOk};
 ghost use Rattle.control.specs.Meaning.{meaning};
 ghost use Rattle.case.specs.Values.{values_of};
 ghost use Rattle.certificate.specs.Certificates.{Invariant};
-ghost use Rattle.checking.specs.Checking.{check_of};
+ghost use Rattle.checking.specs.Checking.{is_measured, check_of};
 ghost use Rattle.checking.specs.Forms.{CheckForm};
 ghost use Rattle.checking.specs.Trusted.{trusted_answer};
 
@@ -32,6 +32,13 @@ impl<'c, 't> Trusted<'c, 't> {
     }
 }
 
+// Whether the proof part begins where the head of a case text can end, and is no longer than a text.
+fn is_measured(case: &Case) -> bool
+    ensures { result ≡ is_measured case.now.line case.now.proofs.now }
+{
+    case.line <= MOST_FIRST_LINE && case.proofs.len() <= TEXT_LIMIT
+}
+
 // Checks the proof lines of a case with a controller. A case is accepted exactly when its proof part is the text of a
 // certificate; then the set within its faces is invariant under the loop with this controller. A refusal tells the first
 // place that fails.
@@ -48,7 +55,7 @@ pub fn check<'c, 't, C: Controller>(
     if states != case.states || inputs != case.inputs {
         return Err(CheckFault::Sizes);
     }
-    if case.line > MOST_FIRST_LINE || case.proofs.len() > TEXT_LIMIT {
+    if !is_measured(case) {
         return Err(CheckFault::Text(TextFault::Size));
     }
     check_lines(case, controller)?;

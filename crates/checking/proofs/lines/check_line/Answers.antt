@@ -9,7 +9,6 @@ use Rattle.checking.specs.declared.faults.CheckFault.TheVariants.{Text}
 use Rattle.checking.proofs.Indices.{case_faces}
 use Rattle.checking.proofs.Judging.{fault_told, region_read, face_read, region_goes, face_stops, face_goes, pair_stops, pair_goes, numbers_stop, numbers_go, proof_stops, proof_goes}
 use Rattle.checking.proofs.Numbers.{limits_are, numbers_refused, numbers_got}
-use Rattle.checking.proofs.lines.check_line.Given as given
 use Rattle.checking.proofs.lines.check_line.Goals as goal
 
 pub returns-in_err-face : goal.returns-in_err-face

@@ -6,7 +6,6 @@ use Rattle.std.specs.List.{range_with_len}
 use Rattle.checking.specs.Checking.{all_named, text_check}
 use Rattle.checking.proofs.Cuts.{nothing_left, unfinished, rest_shorter, line_stops, line_more}
 use Rattle.checking.proofs.Indices.{case_faces}
-use Rattle.checking.proofs.lines.check_lines.Given as given
 use Rattle.checking.proofs.lines.check_lines.Goals as goal
 
 pub loop-rest-init : goal.loop-rest-init
