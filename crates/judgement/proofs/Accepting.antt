@@ -22,6 +22,8 @@ use Rattle.checking.proofs.Exact.{check_form}
 use Rattle.judgement.specs.Forms.{Renders, Acceptable, AcceptedForm}
 use Rattle.judgement.specs.Judging.{of_law, of_case, first_line, counts, proofs_judged, case_judged, judged}
 use Rattle.judgement.specs.declared.Accepted.{Accepted}
+use Rattle.judgement.proofs.Longer.{line_longer, rows_longer}
+use Rattle.judgement.proofs.Measured.{measured}
 
 -- Answers.
 
@@ -72,13 +74,6 @@ judged_parts text a e =
 
 -- Renderings.
 
-line_longer : (names rest : List ℕ) → length rest ≤ length (line_before names rest)
-line_longer names rest = omega (arith, length-append names (10 ∷ rest))
-
-rows_longer : (rows : List (List ℤ)) (rest : List ℕ) → length rest ≤ length (rows_before rows rest)
-rows_longer [] rest = omega arith
-rows_longer (row ∷ rows) rest = omega (arith, line_longer (fields_text row) (rows_before rows rest), rows_longer rows rest)
-
 law_longer : (law : LawText) (rest : List ℕ) → length rest ≤ length (law_before law rest)
 law_longer law rest =
     let rows = rows_before law.rows rest in
@@ -90,12 +85,15 @@ pub renders_law : (text : List ℕ) (law : LawText) (case : CaseText) (proofs : 
 unfolding LawForm
 renders_law text law case proofs r = (law_form text law (case_before case proofs)).1 (r.bytes, r.law_kept, r.small)
 
+-- its case text is not too long either
+case_small : (text : List ℕ) (law : LawText) (case : CaseText) (proofs : List ℕ) → Renders text law case proofs → length (case_before case proofs) ≤ text_limit
+case_small text law case proofs r = omega (arith, law_longer law (case_before case proofs), ap length r.bytes, r.small)
+
 pub renders_case : (text : List ℕ) (law : LawText) (case : CaseText) (proofs : List ℕ) → Renders text law case proofs → case_of (case_before case proofs) ≡ Ok (case, proofs)
 unfolding CaseForm
 renders_case text law case proofs r =
     let rest = case_before case proofs in
-    let small : length (case_before case proofs) ≤ text_limit = omega (arith, law_longer law rest, ap length r.bytes, r.small) in
-    (case_form rest case proofs).1 (refl, r.case_kept, small)
+    (case_form rest case proofs).1 (refl, r.case_kept, case_small text law case proofs r)
 
 judged_renders : (text : List ℕ) (j : Judged text) → Renders text j.law j.case j.proofs
 unfolding LawForm CaseForm
@@ -122,7 +120,8 @@ acceptable_judged : (text : List ℕ) (s : Acceptable text) → judged text ≡ 
 unfolding CheckForm
 acceptable_judged text s =
     let proofs = proofs_text s.lines in
-    let c = (check_form (case_values s.case) (law_meaning s.law) (first_line (case_values s.case)) proofs).1 (s.lines, refl, s.certificate) in
+    let part = measured s.case proofs s.renders.case_kept (case_small text s.law s.case proofs s.renders) in
+    let c = (check_form (case_values s.case) (law_meaning s.law) (first_line (case_values s.case)) proofs).1 (s.lines, refl, s.certificate, part) in
     judged_read text s.law (case_before s.case proofs) s.case proofs
     (renders_law text s.law s.case proofs s.renders) (renders_case text s.law s.case proofs s.renders)
     ∙ ap (λ r. bind r (λ _. Ok (counts (law_meaning s.law) (case_values s.case)))) c
