@@ -5,7 +5,7 @@ pub mod equations;
 pub mod faults;
 pub mod limits;
 pub mod reading;
-pub mod report;
+pub mod fault_report;
 pub mod rows;
 pub mod sections;
 pub mod sizes;

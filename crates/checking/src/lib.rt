@@ -4,7 +4,7 @@
 pub mod faults;
 mod lines;
 mod named;
-pub mod report;
+pub mod fault_report;
 mod trusted;
 
 pub use trusted::{Trusted, check};

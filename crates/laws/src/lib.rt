@@ -5,6 +5,6 @@ pub mod faults;
 pub mod head;
 pub mod law;
 pub mod reading;
-pub mod report;
+pub mod fault_report;
 pub mod rows;
 pub mod table;
