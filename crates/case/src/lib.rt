@@ -2,10 +2,10 @@
 #![tactic(auto)]
 
 pub mod equations;
+pub mod fault_report;
 pub mod faults;
 pub mod limits;
 pub mod reading;
-pub mod fault_report;
 pub mod rows;
 pub mod sections;
 pub mod sizes;
