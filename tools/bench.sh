@@ -6,10 +6,10 @@ set -eu
 from=$PWD
 cd "$(dirname "${BASH_SOURCE[0]}")/.."
 
-library=target/staticlib/libhost.a
+library=crates/host/out/libhost.a
 out=target/bench
 
-[ -f "$library" ] || rt staticlib host
+[ -f "$library" ] || (cd crates/host && rt lib)
 mkdir -p "$out"
 rustc --edition 2024 -C opt-level=3 -D warnings \
     -L "native=$(dirname "$library")" -l static=host -o "$out/bench" bench/main.rs

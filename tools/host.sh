@@ -4,14 +4,14 @@
 set -eu
 cd "$(dirname "${BASH_SOURCE[0]}")/.."
 
-library=target/staticlib/libhost.a
+library=crates/host/out/libhost.a
 out=target/host
 host=$out/vangprune-host
 
 if [ -z "${CC:-}" ]; then
     CC=$(command -v gcc || command -v cc) || { echo "host: no C compiler" >&2; exit 2; }
 fi
-[ -f "$library" ] || rt staticlib host
+[ -f "$library" ] || (cd crates/host && rt lib)
 mkdir -p "$out"
 "$CC" -std=c99 -O2 -Wall -Wextra -Wpedantic -Werror -Iinclude -o "$host" host/main.c "$library"
 

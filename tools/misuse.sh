@@ -1,14 +1,13 @@
 #!/usr/bin/env bash
 # Shows that the compiler refuses the misuses of a case, and accepts their corrected twins.
-# Each caller is a crate of its own, made in a copy of the repository with its target/: a copy takes over what was proved
-# and has not changed, so run this after a check. It ends 'misuse: N as they must be' or fails.
+# Each caller is a crate of its own, made in a copy of the repository: rt takes over what it proved on this machine and has
+# not changed, so run this after a check. It ends 'misuse: N as they must be' or fails.
 set -eu
 cd "$(dirname "${BASH_SOURCE[0]}")/.."
 
 copy=$(mktemp -d)
 trap 'rm -rf "$copy"' EXIT
-cp -R crates crates.txt "$copy/"
-[ -d target ] && cp -R target "$copy/"
+tar -cf - --exclude='crates/*/out' crates crates.txt | tar -xf - -C "$copy"
 mkdir -p "$copy/crates/caller/src"
 echo 'caller: case checking control' >>"$copy/crates.txt"
 count=0
@@ -17,12 +16,13 @@ count=0
 try() {
     local name=$1 lines=$2 error=${3:-} got=accepted
     cat >"$copy/crates/caller/src/lib.rt" <<CALLER
+#![tactic(auto)]
+
 use case::reading::read_case;
 use case::values::Case;
 use checking::Trusted;
 use checking::check;
 use control::Fixed;
-use control::FixedController;
 
 // What wants a trusted case.
 fn states(trusted: &Trusted) -> usize {
@@ -43,7 +43,7 @@ pub fn caller(text: &[u8], other: &[u8]) -> usize {
 $lines
 }
 CALLER
-    (cd "$copy" && rt check caller) >"$copy/log" 2>&1 || got=refused
+    (cd "$copy/crates/caller" && rt check) >"$copy/log" 2>&1 || got=refused
     if [ -z "$error" ]; then
         [ "$got" = accepted ]
     else

@@ -56,7 +56,7 @@ def depth(found, name, above):
 
 
 def main():
-    archive = sys.argv[1] if len(sys.argv) > 1 else "target/staticlib/libhost.a"
+    archive = sys.argv[1] if len(sys.argv) > 1 else "crates/host/out/libhost.a"
     start = sys.argv[2] if len(sys.argv) > 2 else "vangprune_verdict"
     found = functions(archive)
     if start not in found:
