@@ -151,9 +151,9 @@ module _ (t : CaseText) (kept : CaseKept t) (k : Sizes) (sizes : sizes_from t �
         ∙ ap (map padded_extra) (front_rows _ (extra_from (length t.states)) (extra_padded (length t.states)) t.extras _ extras_all))
 
   -- all that is stored, and the values of it
-  module _ (D : ℤ) (eqs : List StateEquation) (bs : List PushBounds) (xs : List ExtraFace) (divisor-is : D ≡ k.divisor)
-      (eqs-are : eqs ≡ filled most_states no_equation (map padded_equation values.equations)) (bs-are : bs ≡ filled most_pushes no_bounds values.bounds)
-      (xs-are : xs ≡ filled most_extras no_extra (map padded_extra values.extra)) where
+  module _ (D : ℤ) (eqs : List StateEquation) (bs : List PushBounds) (xs : List ExtraFace) (divisor_is : D ≡ k.divisor)
+      (eqs_are : eqs ≡ filled most_states no_equation (map padded_equation values.equations)) (bs_are : bs ≡ filled most_pushes no_bounds values.bounds)
+      (xs_are : xs ≡ filled most_extras no_extra (map padded_extra values.extra)) where
     pub all_stored : (proofs : List ℕ) (line : ℕ) → line ≡ proofs_line k + 1
         → ◌≡◌ {A = Stored} (record {
           states = k.states;
@@ -172,9 +172,9 @@ module _ (t : CaseText) (kept : CaseKept t) (k : Sizes) (sizes : sizes_from t �
         let m : k.inputs ≡ t.inputs = ap (λ s. s.inputs) (sym sizes) in
         let p : k.pushes ≡ length values.bounds = ap (λ s. s.pushes) (sym sizes) ∙ sym (length-map t.pushes bounds_from) in
         let e : k.extras ≡ length values.extra = ap (λ s. s.extras) (sym sizes) ∙ sym (length-map t.extras (extra_from (length t.states))) in
-        let d : D ≡ t.divisor = divisor-is ∙ ap (λ s. s.divisor) (sym sizes) in
+        let d : D ≡ t.divisor = divisor_is ∙ ap (λ s. s.divisor) (sym sizes) in
         let i : line ≡ line_after (length values.equations) (length values.bounds) (length values.extra) = omega (arith, l, n, p, e) in
-        rw (i, n, m, p, e, d, eqs-are, bs-are, xs-are) refl
+        rw (i, n, m, p, e, d, eqs_are, bs_are, xs_are) refl
 
     pub values_back : ◌≡◌ {A = CaseValues} (record {
       inputs = k.inputs;
@@ -186,17 +186,17 @@ module _ (t : CaseText) (kept : CaseKept t) (k : Sizes) (sizes : sizes_from t �
     values_back =
         let n : k.states ≡ length t.states = ap (λ s. s.states) (sym sizes) in
         let m : k.inputs ≡ t.inputs = ap (λ s. s.inputs) (sym sizes) in
-        let d : D ≡ t.divisor = divisor-is ∙ ap (λ s. s.divisor) (sym sizes) in
+        let d : D ≡ t.divisor = divisor_is ∙ ap (λ s. s.divisor) (sym sizes) in
         let a : map (equation_of k.states k.inputs k.pushes) (take k.states eqs) ≡ values.equations =
-        ap (λ x. map (equation_of k.states k.inputs k.pushes) (take k.states x)) eqs-are
+        ap (λ x. map (equation_of k.states k.inputs k.pushes) (take k.states x)) eqs_are
         ∙ ap (map (equation_of k.states k.inputs k.pushes))
         (filled_front most_states k.states no_equation (map padded_equation values.equations) (length-map values.equations padded_equation ∙ count_is ∙ sym n))
         ∙ ap (λ s. map (equation_of s.states s.inputs s.pushes) (map padded_equation values.equations)) (sym sizes)
         ∙ equations_back (length t.states) t.inputs (length t.pushes) t.states t.dynamics dynamics_all in
         let b : take k.pushes bs ≡ values.bounds =
-        ap (take k.pushes) bs-are ∙ filled_front most_pushes k.pushes no_bounds values.bounds (length-map t.pushes bounds_from ∙ ap (λ s. s.pushes) sizes) in
+        ap (take k.pushes) bs_are ∙ filled_front most_pushes k.pushes no_bounds values.bounds (length-map t.pushes bounds_from ∙ ap (λ s. s.pushes) sizes) in
         let e : map (extra_of k.states) (take k.extras xs) ≡ values.extra =
-        ap (λ x. map (extra_of k.states) (take k.extras x)) xs-are
+        ap (λ x. map (extra_of k.states) (take k.extras x)) xs_are
         ∙ ap (map (extra_of k.states))
         (filled_front most_extras k.extras no_extra (map padded_extra values.extra)
         (length-map values.extra padded_extra ∙ length-map t.extras (extra_from (length t.states)) ∙ ap (λ s. s.extras) sizes))
@@ -218,28 +218,28 @@ module _ (t : CaseText) (kept : CaseKept t) (k : Sizes) (sizes : sizes_from t �
     pub lengths_are : (length eqs ≡ most_states) × (length bs ≡ most_pushes) × (length xs ≡ most_extras)
     lengths_are =
         let h = kept.sizes in (
-          ap length eqs-are ∙ filled_length most_states no_equation (map padded_equation values.equations)
+          ap length eqs_are ∙ filled_length most_states no_equation (map padded_equation values.equations)
               (omega (arith, length-map values.equations padded_equation, count_is, h.states_high)),
-          ap length bs-are ∙ filled_length most_pushes no_bounds values.bounds (omega (arith, length-map t.pushes bounds_from, h.pushes_high)),
-          ap length xs-are ∙ filled_length most_extras no_extra (map padded_extra values.extra)
+          ap length bs_are ∙ filled_length most_pushes no_bounds values.bounds (omega (arith, length-map t.pushes bounds_from, h.pushes_high)),
+          ap length xs_are ∙ filled_length most_extras no_extra (map padded_extra values.extra)
               (omega (arith, length-map values.extra padded_extra, length-map t.extras (extra_from (length t.states)), h.extras_high)),
         )
 
     pub limits_are : (all_equations_ok eqs ≡ true) × (all_bounds_ok bs ≡ true) × (all_extras_ok xs ≡ true)
     limits_are =
         let h = kept.sizes in (
-          ap all_equations_ok eqs-are
+          ap all_equations_ok eqs_are
               ∙ equations_kept (length t.states) t.inputs (length t.pushes) h.states_high h.inputs_high h.pushes_high t.divisor
               (length t.states + t.inputs + length t.pushes) t.states t.dynamics kept.each_state kept.each_dynamics,
-          ap all_bounds_ok bs-are ∙ bounds_kept t.pushes kept.each_push,
-          ap all_extras_ok xs-are ∙ extras_kept (length t.states) t.extras h.states_high kept.each_extra,
+          ap all_bounds_ok bs_are ∙ bounds_kept t.pushes kept.each_push,
+          ap all_extras_ok xs_are ∙ extras_kept (length t.states) t.extras h.states_high kept.each_extra,
         )
 
     pub wide_is : all_wide D (take k.states eqs) ≡ true
     wide_is =
         let h = kept.sizes in
-        ap (λ x. all_wide x (take k.states eqs)) (divisor-is ∙ ap (λ s. s.divisor) (sym sizes))
-        ∙ ap (λ x. all_wide t.divisor (take k.states x)) eqs-are
+        ap (λ x. all_wide x (take k.states eqs)) (divisor_is ∙ ap (λ s. s.divisor) (sym sizes))
+        ∙ ap (λ x. all_wide t.divisor (take k.states x)) eqs_are
         ∙ ap (all_wide t.divisor)
         (filled_front most_states k.states no_equation (map padded_equation values.equations) (length-map values.equations padded_equation ∙ count_is ∙ ap (λ s. s.states) sizes))
         ∙ wide_kept (length t.states) t.inputs (length t.pushes) h.states_high h.inputs_high h.pushes_high t.divisor

@@ -140,9 +140,9 @@ proof_form k m region face scale ms =
     let long = cond (eqb (length ms) (length rows)) limits (Err Length) in
     let there = cond (present m.regions region && present (faces k) face) long (Err Missing) in
     let sizes_pass = passes (fits k m) there Sizes in
-    let there-pass = passes (present m.regions region && present (faces k) face) long Missing in
-    let long-pass = passes (eqb (length ms) (length rows)) limits Length in
-    let limits-pass = passes (in_limit scale && all_in_limit ms) equations Range in
+    let there_pass = passes (present m.regions region && present (faces k) face) long Missing in
+    let long_pass = passes (eqb (length ms) (length rows)) limits Length in
+    let limits_pass = passes (in_limit scale && all_in_limit ms) equations Range in
     let sizes = decides_fits k m in
     let places = Decides-and (present m.regions region) (present (faces k) face) (decides_present m.regions region) (decides_present (faces k) face) in
     let count = Decides-eqb (length ms) (length rows) in
@@ -150,9 +150,9 @@ proof_form k m region face scale ms =
     let lows = λ (all : AllByRecursion Limited ms). All-weaker Limited (λ z. pos 0 ≤ℤ z) (λ z h. h.0) ms all in (
       (λ e.
           let a = sizes_pass.0 e in
-          let b = there-pass.0 a.1 in
-          let c = long-pass.0 b.1 in
-          let d = limits-pass.0 c.1 in
+          let b = there_pass.0 a.1 in
+          let c = long_pass.0 b.1 in
+          let d = limits_pass.0 c.1 in
           let s = sizes.0 a.0 in
           let p = places.0 b.0 in
           let n = numbers.0 d.0 in
@@ -170,9 +170,9 @@ proof_form k m region face scale ms =
       (λ s.
           let p = s.proves in
           let met = (equations_decided k rows (face_of k face) scale ms p.long p.scale_low p.each_low).1 p in
-          let d = limits-pass.1 (numbers.1 ((p.scale_low, s.scale_high), all_limited ms p.each_low s.each_high), met) in
-          let c = long-pass.1 (count.1 p.long, d) in
-          let b = there-pass.1 (places.1 ((s.region_low, s.region_high), (s.face_low, s.face_high)), c) in
+          let d = limits_pass.1 (numbers.1 ((p.scale_low, s.scale_high), all_limited ms p.each_low s.each_high), met) in
+          let c = long_pass.1 (count.1 p.long, d) in
+          let b = there_pass.1 (places.1 ((s.region_low, s.region_high), (s.face_low, s.face_high)), c) in
           sizes_pass.1 (sizes.1 (s.states_same, s.inputs_same), b)),
     )
 

@@ -309,8 +309,8 @@ module _ (k : CaseValues) (m : Meaning) where
   complete_to ls e region face rl rh fl fh =
       let fs = range_with_len 1 (length (faces k)) in
       let all = named_to ls (range_with_len 1 (length m.regions)) fs e in
-      let of-region = counting_to (λ r. AllByRecursion (λ f. names ls r f ≡ true) fs) 1 (length m.regions) all region rl (omega arith) in
-      counting_to (λ f. names ls region f ≡ true) 1 (length (faces k)) of-region face fl (omega arith)
+      let of_region = counting_to (λ r. AllByRecursion (λ f. names ls r f ≡ true) fs) 1 (length m.regions) all region rl (omega arith) in
+      counting_to (λ f. names ls region f ≡ true) 1 (length (faces k)) of_region face fl (omega arith)
 
   -- and back
   pub complete_from : (ls : List ProofLine) → Every k m (names ls) → complete k m ls ≡ Ok tt

@@ -13,7 +13,7 @@ use Rattle.control.specs.Answers.{no_row, present, region_of, row_of}
 use Rattle.control.specs.Lines.{no_line, row_from}
 use Rattle.control.specs.Fixed.{fixed_ok, fixed_lines, fixed_rows, fixed_partition}
 use Rattle.control.proofs.Outcomes.{sizes_pass, there, absent}
-use Rattle.control.specs.FixedLaws.{FixedOk, fixed_meaning}
+use Rattle.control.specs.Lawful.FixedLaws.{FixedOk, fixed_meaning}
 
 pub fixed_rows_long : (n m : ℕ) (us : List ℤ) → FixedOk n m us → length (fixed_rows n us) ≡ 2 * m
 fixed_rows_long n m us ok = at_one_two (λ k vs. length (fixed_rows n vs) ≡ 2 * k) (λ a. refl) (λ a b. refl) m us ok.long ok.m_low ok.m_high

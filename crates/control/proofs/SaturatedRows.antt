@@ -15,9 +15,9 @@ use Rattle.control.specs.Cover.{Holds}
 use Rattle.control.specs.Answers.{no_row, present, region_of, row_of}
 use Rattle.control.specs.Lines.{no_line, row_from}
 use Rattle.control.specs.Saturated.{input_ok, inputs_ok, saturated_ok, lines, radix, number, numbered, gains_at, region_rows, index_of, digits_at, region_at, region_answer, saturated_command, saturated_partition}
-use Rattle.control.specs.Inputs.{no_input}
+use Rattle.control.specs.Lawful.Inputs.{no_input}
 use Rattle.control.proofs.Outcomes.{sizes_pass, there, absent}
-use Rattle.control.specs.SaturatedLaws.{SaturatedOk, saturated_meaning, partition_long, partition_at, region_holds}
+use Rattle.control.specs.Lawful.SaturatedLaws.{SaturatedOk, saturated_meaning, partition_long, partition_at, region_holds}
 
 -- what a function gives at an input that is held
 pub held_at : {X : Type 0} (f : Input → X) (m : ℕ) (is : List Input) (j : ℕ) (d : X) → j < m → m ≤ length is → get_or (map f (take m is)) j d ≡ f (get_or is j no_input)

@@ -7,7 +7,4 @@ pub mod Lines
 pub mod Fixed
 pub mod Saturated
 -- proofs of the laws of a controller
-pub mod Spread
-pub mod Inputs
-pub mod FixedLaws
-pub mod SaturatedLaws
+pub mod Lawful

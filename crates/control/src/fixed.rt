@@ -4,7 +4,7 @@ ghost use Rattle.arith.specs.Bounds.{within, all_within};
 ghost use Rattle.control.specs.Limits.{most_states, most_inputs, setting_limit};
 ghost use Rattle.control.specs.Lines.{no_line};
 ghost use Rattle.control.specs.Fixed.{fixed_ok, fixed_lines, fixed_partition};
-ghost use Rattle.control.specs.FixedLaws.{ok_from, fixed_limits, fixed_cover};
+ghost use Rattle.control.specs.Lawful.FixedLaws.{ok_from, fixed_limits, fixed_cover};
 
 use super::controller::Controller;
 use super::fault::ControlFault;

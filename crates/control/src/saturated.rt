@@ -8,7 +8,7 @@ ghost use Rattle.control.specs.Answers.{no_row};
 ghost use Rattle.control.specs.Lines.{row_from};
 ghost use Rattle.control.specs.declared.input.Digit.TheVariants.{Low};
 ghost use Rattle.control.specs.Saturated.{inputs_ok, saturated_ok, saturated_command, saturated_partition, region_rows, gains_at, digits_at, region_answer};
-ghost use Rattle.control.specs.SaturatedLaws.{ok_from, saturated_limits, saturated_cover};
+ghost use Rattle.control.specs.Lawful.SaturatedLaws.{ok_from, saturated_limits, saturated_cover};
 
 use super::controller::Controller;
 use super::fault::ControlFault;

@@ -8,9 +8,9 @@ use Rattle.control.specs.Fixed.{fixed_ok}
 use Rattle.control.specs.Limits.{most_states, most_inputs, sizes_ok, setting_limit, Limits}
 use Rattle.control.specs.Saturated.{inputs_ok, saturated_ok}
 use Rattle.control.specs.declared.input.Input.{Input}
-use Rattle.control.specs.FixedLaws.{FixedOk, fixed_limits, fixed_cover}
-use Rattle.control.specs.Inputs.{ok_inputs}
-use Rattle.control.specs.SaturatedLaws.{SaturatedOk, saturated_limits, saturated_cover}
+use Rattle.control.specs.Lawful.FixedLaws.{FixedOk, fixed_limits, fixed_cover}
+use Rattle.control.specs.Lawful.Inputs.{ok_inputs}
+use Rattle.control.specs.Lawful.SaturatedLaws.{SaturatedOk, saturated_limits, saturated_cover}
 use Rattle.laws.specs.Controllers.{table_ok, table_meaning, law_meaning}
 use Rattle.laws.specs.Forms.{LawMeant}
 use Rattle.laws.specs.Laws.{LawText, law_of}

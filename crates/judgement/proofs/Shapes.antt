@@ -26,12 +26,12 @@ extra_long n row k =
 part_long : (f c : ℕ) (d : List ℤ) → f + c ≤ length d → length (take c (drop f d)) ≡ c
 part_long f c d h = length-take-le c (drop f d) (omega (arith, length-drop f d))
 
-module _ (k : CaseValues) (n m p : ℕ) (n_is : state_count k ≡ n) (m_is : k.inputs ≡ m) (p-is : push_count k ≡ p) where
+module _ (k : CaseValues) (n m p : ℕ) (n_is : state_count k ≡ n) (m_is : k.inputs ≡ m) (p_is : push_count k ≡ p) where
   equation_wide : (s d : List ℤ) → n + m + p ≤ length d → EquationWide k (equation_from n m p s d)
   equation_wide s d h = record {
     a_long = length-take-le n d (omega arith) ∙ sym n_is;
     b_long = part_long n m d (omega arith) ∙ sym m_is;
-    e_long = part_long (n + m) p d (omega arith) ∙ sym p-is;
+    e_long = part_long (n + m) p d (omega arith) ∙ sym p_is;
   }
 
   equations_wide : (ss ds : List (List ℤ)) → AllByRecursion (λ d. n + m + p ≤ length d) ds → AllByRecursion (EquationWide k) (equations_from n m p ss ds)

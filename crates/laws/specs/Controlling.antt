@@ -1,9 +1,9 @@
 -- A law of either make keeps the limits of a controller, and covers.
 use Rattle.control.specs.Cover.{Cover}
 use Rattle.control.specs.Limits.{Limits}
-use Rattle.control.specs.FixedLaws.{fixed_limits, fixed_cover}
+use Rattle.control.specs.Lawful.FixedLaws.{fixed_limits, fixed_cover}
 use Rattle.control.proofs.FixedKnown as fixed
-use Rattle.control.specs.SaturatedLaws.{saturated_limits, saturated_cover}
+use Rattle.control.specs.Lawful.SaturatedLaws.{saturated_limits, saturated_cover}
 use Rattle.control.proofs.SaturatedKnown as saturated
 use Rattle.laws.specs.Controllers.{controlled}
 use Rattle.laws.specs.declared.law.Law.{Law}

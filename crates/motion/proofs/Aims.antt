@@ -8,7 +8,7 @@ use Rattle.arith.specs.Products.{dot}
 use Rattle.arith.proofs.Bounds.{within_wider}
 use Rattle.arith.proofs.Dots.{dot_within}
 use Rattle.control.specs.Limits.{most_states, most_inputs, state_limit, command_limit}
-use Rattle.control.specs.Inputs.{front_slice}
+use Rattle.control.specs.Lawful.Inputs.{front_slice}
 use Rattle.case.specs.Limits.{most_pushes, bound_limit, entry_limit, constant_limit, row_ok, equation_ok}
 use Rattle.case.specs.Next.{aim}
 use Rattle.case.specs.Values.{equation_of, values_of}

@@ -8,7 +8,7 @@ use Rattle.std.proofs.lemmas.Bool.{and_parts, eqb-true}
 use Rattle.arith.specs.Bounds.{Within, within, all_within}
 use Rattle.arith.proofs.Bounds.{all_from_test, within_from_test}
 use Rattle.control.specs.Limits.{most_states, most_inputs}
-use Rattle.control.specs.Inputs.{front_slice}
+use Rattle.control.specs.Lawful.Inputs.{front_slice}
 use Rattle.case.specs.Limits.{most_pushes, entry_limit, constant_limit, extra_limit, leeway_limit, range_ok, row_ok, equation_ok, extra_ok, all_equations_ok, all_extras_ok}
 use Rattle.case.specs.declared.values.Case.{Case}
 use Rattle.case.specs.declared.values.StateEquation.{StateEquation}

@@ -88,11 +88,11 @@ proof_refutes k rows face startable s ms proof =
     let last = turned_face k face in
     let h = combined 0 rows last ms s proof.long proof.each_low proof.scale_low in
     let f = face_over_next k face in
-    let column-sum = λ (j : ℕ). sym (column_at (column_count k) ms rows j startable.each) ∙ ap (λ xs. get_or xs j (pos 0)) proof.columns ∙ get_or_scaled s f j in (
+    let column_sum = λ (j : ℕ). sym (column_at (column_count k) ms rows j startable.each) ∙ ap (λ xs. get_or xs j (pos 0)) proof.columns ∙ get_or_scaled s f j in (
       h.sum,
       h.cone,
       (
-        (λ j. h.columns j ∙ cancels s (get_or f j (pos 0)) (at last (column j)) (dot ms (map (source_at j) (map source rows))) (get_d_front (map neg_ℤ f) _ j ∙ get_or_negated f j) (column-sum j)),
+        (λ j. h.columns j ∙ cancels s (get_or f j (pos 0)) (at last (column j)) (dot ms (map (source_at j) (map source rows))) (get_d_front (map neg_ℤ f) _ j ∙ get_or_negated f j) (column_sum j)),
         sides s face.right (right_sum ms rows) (h.sum right) (h.sum scale) (h.right ∙ ap (λ (z : ℤ). z +ℤ s *ℤ neg_ℤ face.right) (sym (right_at ms rows))) h.scale proof.scale_low proof.right proof.strict,
       ),
     )

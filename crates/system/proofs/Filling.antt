@@ -243,16 +243,16 @@ next_filled c i s sign own A B E ok ea eb ee =
     let p = c.pushes in
     let q = state_count (values_of c) in
     let f = λ (z : ℤ). sign *ℤ z in
-    let zero-less = λ (t : ℕ). let e : t - 0 ≡ t = omega arith in e in
+    let zero_less = λ (t : ℕ). let e : t - 0 ≡ t = omega arith in e in
     let la : n ≤ length s.a = omega (arith, ok.a_ok.long, c.sizes.1) in
     let lb : m ≤ length s.b = omega (arith, ok.b_ok.long, c.sizes.3) in
     let le : p ≤ length s.e = omega (arith, ok.e_ok.long, c.counts.0) in
     let wa : length A ≡ n = ap length ea ∙ length-map (take (n - 0) s.a) f ∙ front_long n s.a la in
     let wb : length B ≡ m = ap length eb ∙ length-map (take (m - 0) s.b) f ∙ front_long m s.b lb in
     let we : length E ≡ p = ap length ee ∙ length-map (take (p - 0) s.e) f ∙ front_long p s.e le in
-    let a : A ≡ map f (take n s.a) = ea ∙ ap (λ t. map f (take t s.a)) (zero-less n) in
-    let b : B ≡ map f (take m s.b) = eb ∙ ap (λ t. map f (take t s.b)) (zero-less m) in
-    let e : E ≡ map f (take p s.e) = ee ∙ ap (λ t. map f (take t s.e)) (zero-less p) in
+    let a : A ≡ map f (take n s.a) = ea ∙ ap (λ t. map f (take t s.a)) (zero_less n) in
+    let b : B ≡ map f (take m s.b) = eb ∙ ap (λ t. map f (take t s.b)) (zero_less m) in
+    let e : E ≡ map f (take p s.e) = ee ∙ ap (λ t. map f (take t s.e)) (zero_less p) in
     let N : column_count (values_of c) ≡ n + m + p + q = omega (arith, states_are c, pushes_are c) in
     let parts : A ++ (B ++ E) ≡ map f (take n s.a ++ (take m s.b ++ take p s.e)) =
     ap (λ l. l ++ (B ++ E)) a ∙ ap (λ l. map f (take n s.a) ++ (l ++ E)) b ∙ ap (λ l. map f (take n s.a) ++ (map f (take m s.b) ++ l)) e
@@ -277,8 +277,8 @@ region_filled c m region j cleared last r es ei there-region lt ec ea ef =
     let p = row_found m region (j + 1) (take (w - 0) cleared) such (eq-eqb _ _ long) in
     let at : j + 1 - 1 ≡ j = omega arith in
     let same : row_of m region (j + 1) ≡ get_or (region_of m region) j no_row = ap (λ t. get_or (region_of m region) t no_row) at in
-    let r-is = ok_is r (row_of m region (j + 1)).right (ea ∙ sym p.0) in
+    let r_is = ok_is r (row_of m region (j + 1)).right (ea ∙ sym p.0) in
     same_row _ _ _ _
     (ap (λ l. put_mid 0 (w - 0) l last) ec ∙ front_filled w (column_count k) more last N ∙ ap (λ l. l ++ none more) (ef ∙ sym p.1))
-    r-is
+    r_is
     ∙ ap (over_commands k) same

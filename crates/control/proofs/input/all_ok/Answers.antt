@@ -2,7 +2,7 @@
 use Rattle.std.proofs.Common.{sym, ◌∙◌}
 use Rattle.std.proofs.lemmas.List.{at_drop_all}
 use Rattle.control.specs.Saturated.{inputs_ok}
-use Rattle.control.specs.Inputs.{turn_ok}
+use Rattle.control.specs.Lawful.Inputs.{turn_ok}
 use Rattle.control.proofs.input.all_ok.Goals as goal
 
 pub returns-then-not-is_ok : goal.returns-then-not-is_ok

@@ -6,7 +6,7 @@ use Rattle.arith.specs.Bounds.{Within}
 use Rattle.arith.proofs.Bounds.{sign_within, sfits_within, product_read}
 use Rattle.control.specs.Limits.{coefficient_limit}
 use Rattle.control.specs.Lines.{spread}
-use Rattle.control.specs.Spread.{spread_is}
+use Rattle.control.specs.Lawful.Spread.{spread_is}
 use Rattle.control.proofs.lines.fill_row.Goals as goal
 
 product_small : (c : goal.After-struct_told-1) → SFits w64 (c.args.line.sign *ℤ get_or c.args.gains.now c.loop-i.i (pos 0))

@@ -4,7 +4,7 @@ use mir.Syntax.{w128}
 use Rattle.std.proofs.lemmas.Int.{to_z-of_z}
 use Rattle.arith.specs.Products.{dot}
 use Rattle.control.specs.Limits.{most_states}
-use Rattle.control.specs.Inputs.{front_slice}
+use Rattle.control.specs.Lawful.Inputs.{front_slice}
 use Rattle.motion.proofs.Stored.{sliced, extra_row}
 use Rattle.motion.proofs.Widths.{widened, same_order}
 use Rattle.motion.proofs.faces.extra_holds.Goals as goal

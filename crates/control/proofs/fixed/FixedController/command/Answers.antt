@@ -2,7 +2,7 @@
 use Rattle.std.proofs.Common.{◌≡◌, ◌<◌, ◌≤◌, length, take, pos, sym, ◌∙◌, arith}
 use Rattle.std.proofs.lemmas.List.{ext_get_or, length-take-le, get_or-take}
 use Rattle.std.proofs.lemmas.Bool.{eq-eqb}
-use Rattle.control.specs.FixedLaws.{fixed_meaning}
+use Rattle.control.specs.Lawful.FixedLaws.{fixed_meaning}
 use Rattle.control.proofs.Outcomes.{command_found}
 use Rattle.control.proofs.fixed.FixedController.command.Goals as goal
 

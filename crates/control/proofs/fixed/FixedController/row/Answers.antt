@@ -9,9 +9,9 @@ use Rattle.arith.proofs.Bounds.{all_within_at, zeros_within}
 use Rattle.control.specs.Limits.{coefficient_limit, setting_limit}
 use Rattle.control.specs.Lines.{row_from}
 use Rattle.control.proofs.Outcomes.{row_missing, row_short, row_found}
-use Rattle.control.specs.Spread.{filled}
+use Rattle.control.specs.Lawful.Spread.{filled}
 use Rattle.control.proofs.FixedKnown.{ok_of}
-use Rattle.control.specs.FixedLaws.{fixed_meaning}
+use Rattle.control.specs.Lawful.FixedLaws.{fixed_meaning}
 use Rattle.control.proofs.FixedRows.{no_region, no_such_row, such_row, that_row, zeros_front, code_line, line_sign}
 use Rattle.control.proofs.fixed.FixedController.row.Goals as goal
 use Rattle.control.proofs.fixed.FixedController.row.Goals.{then-region-ne1-via-then-region-ne1, then-region-ne1-via-else-region-ne1+then-row-lt1, then-region-ne1-via-else-region-ne1+else-row-lt1+then-row-self}

@@ -2,7 +2,7 @@
 use Rattle.std.proofs.Common.{take, Ok, sym, ap, ◌∙◌}
 use Rattle.control.specs.Answers.{rows_answer}
 use Rattle.control.proofs.FixedKnown.{ok_of}
-use Rattle.control.specs.FixedLaws.{fixed_meaning}
+use Rattle.control.specs.Lawful.FixedLaws.{fixed_meaning}
 use Rattle.control.proofs.FixedRows.{fixed_rows_long}
 use Rattle.control.proofs.fixed.FixedController.rows.Goals as goal
 

@@ -1,6 +1,6 @@
 -- The proof of `Input::high_edge`: what the search leaves.
 use Rattle.std.proofs.lemmas.Int.{to_z-of_z}
-use Rattle.control.specs.Inputs.{fit, high_edge_read}
+use Rattle.control.specs.Lawful.Inputs.{fit, high_edge_read}
 use Rattle.control.proofs.input.Input.high_edge.Goals as goal
 
 pub overflow_add-result : goal.overflow_add-result

@@ -4,7 +4,7 @@ use Rattle.arith.proofs.Bounds.{difference_is, difference_fits, negated_read}
 use Rattle.control.specs.declared.input.Digit.TheVariants.{High}
 use Rattle.control.specs.Limits.{setting_limit}
 use Rattle.control.specs.Saturated.{lines}
-use Rattle.control.specs.Inputs.{ok_input, fit, line_is}
+use Rattle.control.specs.Lawful.Inputs.{ok_input, fit, line_is}
 use Rattle.control.proofs.input.Input.high_line.Goals as goal
 
 pub overflow_sub-result-in_default : goal.overflow_sub-result-in_default

@@ -1,6 +1,6 @@
 -- The proof of `Input::low_edge`: what the search leaves.
 use Rattle.std.proofs.lemmas.Int.{to_z-of_z}
-use Rattle.control.specs.Inputs.{fit, low_edge_read}
+use Rattle.control.specs.Lawful.Inputs.{fit, low_edge_read}
 use Rattle.control.proofs.input.Input.low_edge.Goals as goal
 
 pub overflow_mul-result : goal.overflow_mul-result

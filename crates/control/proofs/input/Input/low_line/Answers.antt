@@ -3,7 +3,7 @@ use Rattle.std.proofs.Common.{◌≡◌, pos, refl, arith}
 use Rattle.arith.proofs.Bounds.{difference_is, difference_fits}
 use Rattle.control.specs.declared.input.Digit.TheVariants.{Low}
 use Rattle.control.specs.Saturated.{lines}
-use Rattle.control.specs.Inputs.{fit, line_is}
+use Rattle.control.specs.Lawful.Inputs.{fit, line_is}
 use Rattle.control.proofs.input.Input.low_line.Goals as goal
 
 pub overflow_sub-result-in_default : goal.overflow_sub-result-in_default

@@ -4,7 +4,7 @@ use Rattle.std.proofs.lemmas.Int.{ints, to_z-of_z}
 use Rattle.arith.proofs.Bounds.{negated_read}
 use Rattle.control.specs.declared.input.Digit.TheVariants.{Middle}
 use Rattle.control.specs.Saturated.{most_divisor, lines}
-use Rattle.control.specs.Inputs.{ok_input, fit, middle_read, line_is}
+use Rattle.control.specs.Lawful.Inputs.{ok_input, fit, middle_read, line_is}
 use Rattle.control.proofs.input.Input.middle_line.Goals as goal
 
 pub overflow_sub-result-in-1-2 : goal.overflow_sub-result-in-1-2

@@ -6,7 +6,7 @@ use Rattle.arith.specs.Bounds.{Within}
 use Rattle.arith.specs.Products.{dot}
 use Rattle.arith.proofs.Bounds.{sum_read}
 use Rattle.control.specs.Limits.{coefficient_limit}
-use Rattle.control.specs.Inputs.{ok_input, gains_long, gains_within, front_slice, value_fits}
+use Rattle.control.specs.Lawful.Inputs.{ok_input, gains_long, gains_within, front_slice, value_fits}
 use Rattle.control.proofs.input.Input.value.Goals as goal
 
 pub dot_product-requires : goal.dot_product-requires

@@ -5,7 +5,7 @@ use Rattle.arith.proofs.Bounds.{all_from_test}
 use Rattle.control.specs.declared.input.Digit.TheVariants.{Low}
 use Rattle.control.specs.Limits.{state_limit}
 use Rattle.control.specs.Saturated.{value, digit_of}
-use Rattle.control.specs.Inputs.{no_input, input_ok_at}
+use Rattle.control.specs.Lawful.Inputs.{no_input, input_ok_at}
 use Rattle.control.proofs.SaturatedRows.{held_at}
 use Rattle.control.proofs.saturated.Saturated.digit_at.Goals as goal
 

@@ -4,7 +4,7 @@ use Rattle.std.proofs.lemmas.Int.{to_z-of_z}
 use Rattle.arith.proofs.Bounds.{all_from_test}
 use Rattle.control.specs.Limits.{state_limit}
 use Rattle.control.specs.Saturated.{value, part}
-use Rattle.control.specs.Inputs.{no_input, input_ok_at}
+use Rattle.control.specs.Lawful.Inputs.{no_input, input_ok_at}
 use Rattle.control.proofs.SaturatedRows.{held_at}
 use Rattle.control.proofs.saturated.Saturated.part_at.Goals as goal
 

@@ -4,8 +4,8 @@ use Rattle.std.proofs.ByRecursion.{All-get_or}
 use Rattle.arith.specs.Bounds.{Within}
 use Rattle.control.specs.Lines.{no_line}
 use Rattle.control.specs.Saturated.{lines, radix, numbered}
-use Rattle.control.specs.Inputs.{no_input, input_ok_at}
-use Rattle.control.specs.SaturatedLaws.{lines_signed}
+use Rattle.control.specs.Lawful.Inputs.{no_input, input_ok_at}
+use Rattle.control.specs.Lawful.SaturatedLaws.{lines_signed}
 use Rattle.control.proofs.SaturatedRows.{first_lines, second_lines, past_first, rows_two, first_row, second_row}
 use Rattle.control.proofs.saturated.Saturated.placed.Goals as goal
 

@@ -1,7 +1,7 @@
 -- The proof of `Saturated::row_count`: what the search leaves.
 use Rattle.std.proofs.Common.{◌≡◌, ◌+◌, length, get_or, ap, ◌∙◌, rules}
 use Rattle.control.specs.Saturated.{lines}
-use Rattle.control.specs.Inputs.{no_input}
+use Rattle.control.specs.Lawful.Inputs.{no_input}
 use Rattle.control.proofs.SaturatedRows.{first_lines, rows_one, rows_two}
 use Rattle.control.proofs.saturated.Saturated.row_count.Goals as goal
 

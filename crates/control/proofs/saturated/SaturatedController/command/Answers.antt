@@ -4,7 +4,7 @@ use Rattle.std.proofs.lemmas.List.{ext_get_or, length-map, length-take-le}
 use Rattle.std.proofs.lemmas.Bool.{eq-eqb}
 use Rattle.control.specs.Saturated.{value, part, saturated_command}
 use Rattle.control.proofs.Outcomes.{command_found}
-use Rattle.control.specs.SaturatedLaws.{saturated_meaning}
+use Rattle.control.specs.Lawful.SaturatedLaws.{saturated_meaning}
 use Rattle.control.proofs.saturated.SaturatedController.command.Goals as goal
 
 pub returns : goal.returns

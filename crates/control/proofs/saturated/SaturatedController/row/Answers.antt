@@ -8,9 +8,9 @@ use Rattle.control.specs.Limits.{coefficient_limit}
 use Rattle.control.specs.Lines.{row_from}
 use Rattle.control.specs.Saturated.{region_rows, saturated_partition}
 use Rattle.control.proofs.Outcomes.{row_missing, row_short, row_found}
-use Rattle.control.specs.Spread.{filled}
-use Rattle.control.specs.Inputs.{no_input, ok_input, input_ok_at, gains_long, gains_within, front_slice}
-use Rattle.control.specs.SaturatedLaws.{saturated_meaning}
+use Rattle.control.specs.Lawful.Spread.{filled}
+use Rattle.control.specs.Lawful.Inputs.{no_input, ok_input, input_ok_at, gains_long, gains_within, front_slice}
+use Rattle.control.specs.Lawful.SaturatedLaws.{saturated_meaning}
 use Rattle.control.proofs.SaturatedRows.{gains_held, such_row, no_such_row, that_row}
 use Rattle.control.proofs.saturated.SaturatedController.row.Goals as goal
 use Rattle.control.proofs.saturated.SaturatedController.row.Goals.{then-row-lt1-via-then-row-lt1, then-row-lt1-via-else-row-lt1+then-row-row_count}

@@ -2,7 +2,7 @@
 use Rattle.std.proofs.Common.{◌≤◌, length, take, Ok, sym, ap, ◌∙◌, arith}
 use Rattle.control.specs.Saturated.{saturated_partition}
 use Rattle.control.proofs.Outcomes.{there, rows_found}
-use Rattle.control.specs.SaturatedLaws.{saturated_meaning}
+use Rattle.control.specs.Lawful.SaturatedLaws.{saturated_meaning}
 use Rattle.control.proofs.SaturatedRows.{region_is}
 use Rattle.control.proofs.saturated.SaturatedController.rows.Goals as goal
 

@@ -1,4 +1,4 @@
--- The fixed law keeps the limits and covers: proofs of the laws of a controller, which the impl cites. Nothing here needs to be believed.
+-- The fixed law keeps the limits and covers.
 use Rattle.std.proofs.Common.{◌≡◌, ℕ, ◌+◌, ◌<◌, ◌≤◌, true, List, [], ◌∷◌, ◌++◌, map, length, get_or, take, replicate, ℤ, pos, negsuc, neg_ℤ, sym, refl, ◌∙◌, arith}
 use lib.IntN.{zero-*ℤ}
 use Rattle.std.specs.List.{AllByRecursion}
@@ -15,7 +15,7 @@ use Rattle.control.specs.Limits.{setting_limit, most_states, most_inputs, coeffi
 use Rattle.control.specs.Cover.{Holds, Cover}
 use Rattle.control.specs.Lines.{line, row_from}
 use Rattle.control.specs.Fixed.{fixed_lines, fixed_partition}
-use Rattle.control.specs.Spread.{dot_spread, row_limits}
+use Rattle.control.specs.Lawful.Spread.{dot_spread, row_limits}
 
 abbrev pub fixed_meaning : ℕ → ℕ → List ℤ → Meaning
 fixed_meaning n m us = meaning n m (fixed_partition n us) (λ _. us)

@@ -1,4 +1,4 @@
--- The saturated law keeps the limits and covers: proofs of the laws of a controller, which the impl cites. Nothing here needs to be believed.
+-- The saturated law keeps the limits and covers.
 use Rattle.std.proofs.Common.{◌≡◌, ℕ, suc, ◌+◌, ◌*◌, ◌/◌, ◌%◌, ◌^◌, ◌<◌, ◌≤◌, true, false, cond, List, [], ◌∷◌, ◌++◌, map, length, get_or, take, ℤ, pos, negsuc, ◌+ℤ◌, ◌-ℤ◌, ◌*ℤ◌, neg_ℤ, ◌≤ℤ◌, ◌<ℤ◌, sym, refl, ap, ◌∙◌, subst, pow-suc, arith}
 use lib.IntN.{zero-*ℤ}
 use lib.Signed.{le_z}
@@ -24,8 +24,8 @@ use Rattle.control.specs.Limits.{most_states, most_inputs, most_regions, coeffic
 use Rattle.control.specs.Cover.{Holds, Cover}
 use Rattle.control.specs.Lines.{line, spread, row_from, stacked}
 use Rattle.control.specs.Saturated.{inputs_ok, offset_limit, value, quotient, part, low_edge, high_edge, digit_of, lines, radix, number, numbered, region_lines, gains_at, region_rows, index_of, digits_at, saturated_command, saturated_partition}
-use Rattle.control.specs.Inputs.{InputOk, ok_inputs, gains_long, gains_within, rights}
-use Rattle.control.specs.Spread.{dot_spread, row_limits}
+use Rattle.control.specs.Lawful.Inputs.{InputOk, ok_inputs, gains_long, gains_within, rights}
+use Rattle.control.specs.Lawful.Spread.{dot_spread, row_limits}
 
 abbrev pub saturated_meaning : ℕ → ℕ → List Input → Meaning
 saturated_meaning n m is = meaning n m (saturated_partition n is) (saturated_command n is)
