@@ -39,7 +39,7 @@ extern "C" {
  *
  * It allocates nothing and keeps nothing between calls, so any number of
  * threads may call it at once. It does no input or output.
- * Stack: at most 9,216 bytes in a call, whatever the text (docs/HOST.md).
+ * Stack: at most 13,312 bytes in a call, whatever the text (docs/HOST.md).
  */
 uint32_t vangprune_verdict(const uint8_t *text, size_t len);
 
