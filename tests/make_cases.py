@@ -4,8 +4,9 @@
     python3 tests/make_cases.py --check   only compares them
 
 The head of src/main.rt gives the form of a case. text_cases judges laws and
-cases alone; proof_text_cases has more texts and judges the proof lines too. Nothing here is random: each run writes the same bytes. Both
-ways the model is first held against the answers that docs/ work out by hand.
+cases alone; proof_text_cases has more texts and judges the proof lines too.
+Nothing here is random: each run writes the same bytes. Both ways the model is
+first held against the answers that docs/ work out by hand.
 """
 
 import argparse

@@ -69,5 +69,5 @@ try 'reading into the place while a trusted case stands on it' \
     '    let _ = read_case(other, &mut place);
     states(&trusted)' 'error[borrow-e0502]'
 try 'a trusted case made without check' \
-    '    states(&Trusted { case: &place })' 'error['
+    '    states(&Trusted { case: &place })' 'error[private-field]'
 echo "misuse: $count as they must be"

@@ -8,7 +8,7 @@ use Rattle.std.proofs.lemmas.List.{length-replicate}
 use Rattle.std.proofs.lemmas.Int.{ints}
 use Rattle.std.proofs.lemmas.Bool.{both_ways, eqb-true, eq-eqb, lt-ltb, and_parts, and_from, or_parts, or_from, cond-true, cond-false}
 use Rattle.text.specs.Forms.{Fit}
-use Rattle.text.specs.Lines.{bind, place, next_number, after_field, numbers_of}
+use Rattle.text.specs.Lines.{bind, text_limit, place, next_number, after_field, numbers_of}
 use Rattle.text.specs.Render.{fields_text}
 use Rattle.text.specs.declared.faults.TextFault.{TextFault}
 use Rattle.text.specs.declared.faults.TextFault.TheVariants.{Size}
@@ -24,11 +24,12 @@ use Rattle.certificate.specs.Tests.{multiplier_limit, in_limit, all_in_limit, fa
 use Rattle.certificate.specs.declared.fault.ProofFault.{ProofFault}
 use Rattle.certificate.proofs.Tested.{decides_le_z}
 use Rattle.certificate.proofs.Tested.{proof_form}
-use Rattle.checking.specs.Checking.{ProofLine, pair, names, as_check, as_index, up_to, region_field, face_field, unnamed, proof_limit, proof_limits, number_fields, proof_line, proved_at, equations_at, line_of, absent_face, unless_absent, all_named, complete, text_lines, lines_check, text_check, is_measured, check_of}
+use Rattle.checking.specs.Checking.{ProofLine, pair, names, as_check, as_index, up_to, region_field, face_field, unnamed, proof_limit, proof_limits, number_fields, proof_line, proved_at, equations_at, line_of, absent_face, unless_absent, all_named, complete, text_lines, lines_check, text_check, most_first_line, is_measured, check_of}
 use Rattle.checking.specs.Forms.{proof_numbers, proofs_text, Apart, Certificate, CheckForm}
 use Rattle.checking.specs.declared.faults.CheckFault.{CheckFault}
 use Rattle.checking.specs.declared.faults.CheckFault.TheVariants.{Text, Sizes, Repeated}
 use Rattle.checking.proofs.Lining.{rows_lines, text_of_lines, lines_rows}
+use Rattle.checking.proofs.Measuring.{measured_to, measured_from}
 
 -- What an Ok came from.
 
@@ -433,12 +434,12 @@ module _ (k : CaseValues) (m : Meaning) where
         },
       )
 
-  check_to : (line : ℕ) (proofs : List ℕ) → check_of k m line proofs ≡ Ok tt → (ls : List ProofLine) × (proofs ≡ proofs_text ls) × Certificate k m ls × (is_measured line proofs ≡ true)
+  check_to : (line : ℕ) (proofs : List ℕ) → check_of k m line proofs ≡ Ok tt → (ls : List ProofLine) × (proofs ≡ proofs_text ls) × Certificate k m ls × (line ≤ most_first_line) × (length proofs ≤ text_limit)
   check_to line proofs q = by_test (fits k m) (is_measured line proofs) refl refl q
     where
       by_test : (t u : Bool) → fits k m ≡ t → is_measured line proofs ≡ u → cond t (cond u (text_check k m [] line proofs) (Err (Text Size))) (Err Sizes) ≡ Ok tt
-          → (ls : List ProofLine) × (proofs ≡ proofs_text ls) × Certificate k m ls × (is_measured line proofs ≡ true)
-      by_test true true t u p = let r = text_to line proofs t p in (r.0, r.1, r.2, u)
+          → (ls : List ProofLine) × (proofs ≡ proofs_text ls) × Certificate k m ls × (line ≤ most_first_line) × (length proofs ≤ text_limit)
+      by_test true true t u p = let r = text_to line proofs t p in let h = measured_to line proofs u in (r.0, r.1, r.2, h.0, h.1)
       by_test true false t u p = let z : ◌≡◌ {A = ℕ} 0 1 = grind arith in absurd (omega arith)
       by_test false u t e p = let z : ◌≡◌ {A = ℕ} 0 1 = grind arith in absurd (omega arith)
 
@@ -457,4 +458,4 @@ module _ (k : CaseValues) (m : Meaning) where
   -- check accepts exactly when the proof part is the text of a certificate
   pub check_form : (line : ℕ) (proofs : List ℕ) → CheckForm k m line proofs
   unfolding CheckForm
-  check_form line proofs = (check_to line proofs, λ c. ap (check_of k m line) c.1 ∙ check_from line c.0 c.2 (ap (is_measured line) (sym c.1) ∙ c.3))
+  check_form line proofs = (check_to line proofs, λ c. ap (check_of k m line) c.1 ∙ check_from line c.0 c.2 (ap (is_measured line) (sym c.1) ∙ measured_from line proofs c.3 c.4))

@@ -5,6 +5,7 @@ pub mod Indices
 pub mod Judging
 pub mod Lining
 pub mod Marking
+pub mod Measuring
 pub mod Numbers
 pub mod Proving
 pub mod Trusting

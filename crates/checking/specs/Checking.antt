@@ -7,9 +7,12 @@ use Rattle.text.specs.declared.faults.FieldFault.TheVariants.{Malformed, Outside
 use Rattle.text.specs.declared.faults.TextFault.{TextFault}
 use Rattle.text.specs.declared.faults.TextFault.TheVariants.{Size, Line, Field}
 use Rattle.text.specs.declared.number.Limit.{Limit}
+use Rattle.control.specs.Limits.{most_states}
 use Rattle.control.specs.Meaning.{Meaning}
 use Rattle.case.specs.Faces.{faces}
 use Rattle.case.specs.Fields.{from_to}
+use Rattle.case.specs.Limits.{most_pushes, most_extras}
+use Rattle.case.specs.Stored.{line_after}
 use Rattle.case.specs.Values.{CaseValues}
 use Rattle.system.specs.Answers.{fits, system_of}
 use Rattle.certificate.specs.Tests.{multiplier_limit, face_of, equations_of}
@@ -141,9 +144,9 @@ lines_check k m before line (l ∷ ls) rest = bind (line_of k m before line l) (
 abbrev pub text_check : CaseValues → Meaning → List ProofLine → ℕ → List ℕ → Result (Unit {0}) CheckFault
 text_check k m before line text = lines_check k m before line (text_lines text).0 (text_lines text).1
 
--- the first proof line stands at line 8 + 2 × 4 + 2 + 8 of a case text at the latest
+-- the number that the first proof line of a case text has at the most
 abbrev pub most_first_line : ℕ
-most_first_line = 26
+most_first_line = line_after most_states most_pushes most_extras
 
 -- a proof part begins where the head of a case text can end, and is no longer than a text
 abbrev pub is_measured : ℕ → List ℕ → Bool

@@ -2,12 +2,13 @@
 use Rattle.std.specs.Prelude.{◌≡◌, ℕ, ◌≤◌, true, List, [], ◌∷◌, map, length, ℤ, pos, Ok, ◌≢◌}
 use Rattle.std.specs.List.{AllByRecursion}
 use Rattle.text.specs.Forms.{Iff}
+use Rattle.text.specs.Lines.{text_limit}
 use Rattle.control.specs.Meaning.{Meaning}
 use Rattle.case.specs.Faces.{faces}
 use Rattle.case.specs.Forms.{rows_before}
 use Rattle.case.specs.Values.{CaseValues, state_count}
 use Rattle.certificate.specs.Tests.{Stands}
-use Rattle.checking.specs.Checking.{ProofLine, names, is_measured, check_of}
+use Rattle.checking.specs.Checking.{ProofLine, names, most_first_line, check_of}
 
 -- the text of proof lines: region, face, scale and multipliers, a line each
 abbrev pub proof_numbers : ProofLine → List ℤ
@@ -29,7 +30,7 @@ pub record Certificate (k : CaseValues) (m : Meaning) (ls : List ProofLine) : Ty
   pub apart : Apart ls
   pub every : (region face : ℕ) → 1 ≤ region → region ≤ length m.regions → 1 ≤ face → face ≤ length (faces k) → names ls region face ≡ true
 
--- check accepts exactly when the proof part is the text of a certificate, and is one that a case text can have
+-- check accepts exactly when the proof part is the text of a certificate, begins where the head of a case text can end, and is no longer than a text
 unfoldable pub CheckForm : CaseValues → Meaning → ℕ → List ℕ → Type 0
 CheckForm k m line proofs =
-    Iff (check_of k m line proofs ≡ Ok tt) ((ls : List ProofLine) × (proofs ≡ proofs_text ls) × Certificate k m ls × (is_measured line proofs ≡ true))
+    Iff (check_of k m line proofs ≡ Ok tt) ((ls : List ProofLine) × (proofs ≡ proofs_text ls) × Certificate k m ls × (line ≤ most_first_line) × (length proofs ≤ text_limit))

@@ -1,8 +1,7 @@
 -- A text is accepted exactly when it renders a law, a case and a certificate for the two.
-use Rattle.std.proofs.Common.{◌≡◌, ℕ, ◌≤◌, List, [], ◌∷◌, length, ℤ, Ok, Err, Result, refl, ap, ◌∙◌, subst, arith}
-use Rattle.std.proofs.lemmas.List.{length-append}
+use Rattle.std.proofs.Common.{◌≡◌, ℕ, ◌≤◌, List, length, Ok, Err, Result, refl, ap, ◌∙◌, subst, arith}
 use Rattle.text.specs.Lines.{bind, text_limit}
-use Rattle.text.specs.Render.{line_before, fields_text}
+use Rattle.text.specs.Render.{line_before}
 use Rattle.text.proofs.Forming.{bind_ok}
 use Rattle.case.specs.Forms.{case_before, CaseForm}
 use Rattle.case.specs.Stored.{case_values}
@@ -121,7 +120,7 @@ unfolding CheckForm
 acceptable_judged text s =
     let proofs = proofs_text s.lines in
     let part = measured s.case proofs s.renders.case_kept (case_small text s.law s.case proofs s.renders) in
-    let c = (check_form (case_values s.case) (law_meaning s.law) (first_line (case_values s.case)) proofs).1 (s.lines, refl, s.certificate, part) in
+    let c = (check_form (case_values s.case) (law_meaning s.law) (first_line (case_values s.case)) proofs).1 (s.lines, refl, s.certificate, part.0, part.1) in
     judged_read text s.law (case_before s.case proofs) s.case proofs
     (renders_law text s.law s.case proofs s.renders) (renders_case text s.law s.case proofs s.renders)
     ∙ ap (λ r. bind r (λ _. Ok (counts (law_meaning s.law) (case_values s.case)))) c

@@ -1,14 +1,13 @@
 -- The proof part of a text that renders a case is one that a case text can have.
-use Rattle.std.proofs.Common.{◌≡◌, ℕ, ◌≤◌, true, List, [], ◌∷◌, length, ℤ, refl, arith}
-use Rattle.std.proofs.lemmas.Bool.Decides.{nat_tests}
-use Rattle.std.proofs.lemmas.List.{length-append, length-map}
+use Rattle.std.proofs.Common.{ℕ, ◌≤◌, List, [], ◌∷◌, length, ℤ, refl, arith}
+use Rattle.std.proofs.lemmas.List.{length-map}
 use Rattle.text.specs.Lines.{text_limit}
-use Rattle.text.specs.Render.{line_before, fields_text}
-use Rattle.case.specs.Forms.{case_before, body_before, rows_before, section_before, sizes_from, sizes_row, CaseKept}
+use Rattle.text.specs.Render.{line_before}
+use Rattle.case.specs.Forms.{case_before, rows_before, section_before, sizes_from, sizes_row, CaseKept}
 use Rattle.case.specs.Stored.{bounds_from, extra_from, case_values}
 use Rattle.case.specs.Texts.{CaseText, sizes_names, state_names, push_names, dynamics_names, extra_names, proof_names}
 use Rattle.case.proofs.Storing.{count_is}
-use Rattle.checking.specs.Checking.{most_first_line, is_measured}
+use Rattle.checking.specs.Checking.{most_first_line}
 use Rattle.judgement.specs.Judging.{first_line}
 use Rattle.judgement.proofs.Longer.{line_longer, rows_longer}
 
@@ -34,8 +33,5 @@ first_line_early : (t : CaseText) → CaseKept t → first_line (case_values t) 
 first_line_early t h =
     omega (arith, count_is t h (sizes_from t) refl, length-map t.pushes bounds_from, length-map t.extras (extra_from (length t.states)), h.sizes.states_high, h.sizes.pushes_high, h.sizes.extras_high)
 
-by_bounds : (line : ℕ) (proofs : List ℕ) → line ≤ most_first_line → length proofs ≤ text_limit → is_measured line proofs ≡ true
-by_bounds line proofs h i = grind (arith, nat_tests)
-
-pub measured : (t : CaseText) (proofs : List ℕ) → CaseKept t → length (case_before t proofs) ≤ text_limit → is_measured (first_line (case_values t)) proofs ≡ true
-measured t proofs h small = by_bounds (first_line (case_values t)) proofs (first_line_early t h) (omega (arith, case_longer t proofs, small))
+pub measured : (t : CaseText) (proofs : List ℕ) → CaseKept t → length (case_before t proofs) ≤ text_limit → (first_line (case_values t) ≤ most_first_line) × (length proofs ≤ text_limit)
+measured t proofs h small = (first_line_early t h, omega (arith, case_longer t proofs, small))

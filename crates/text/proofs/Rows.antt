@@ -69,9 +69,7 @@ row_full_to w i row le e =
 
 -- the numbers so far, and zeros behind them
 pub row_full : (i : ℕ) (row : List ℤ) → i ≤ length row → drop i row ≡ replicate (row_width - i) (pos 0) → row ≡ padded (take i row ++ [])
-row_full i row le e =
-    let l : length (take i row) ≡ i = length-take-le i row le in
-    sym (take-append-drop i row) ∙ ap (λ t. take i row ++ t) (e ∙ ap (λ n. replicate (row_width - n) (pos 0)) (sym l)) ∙ ap padded (sym (append-nil (take i row)))
+row_full i row le e = row_full_to row_width i row le e
 
 padded_err : (r : Result (List ℤ) TextFault) (e : TextFault) (rest : List ℕ) → Err e ≡ bind r (λ zs. Ok (padded zs)) → Err e ≡ padded_line (bind r (λ zs. Ok (zs, rest)))
 padded_err (Ok zs) e rest h = grind arith

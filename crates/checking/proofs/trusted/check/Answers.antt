@@ -1,6 +1,4 @@
-use Rattle.std.proofs.Common.{◌≡◌, ℕ, ◌≤◌, true, List, length, IfOk, Err, sym, refl, ap, ◌∙◌, subst, inl, inr, arith}
-use Rattle.std.proofs.lemmas.Bool.Decides.{nat_tests}
-use Rattle.text.specs.Lines.{text_limit}
+use Rattle.std.proofs.Common.{◌≡◌, IfOk, Err, sym, refl, ap, ◌∙◌, subst, inl, inr}
 use Rattle.std.proofs.lemmas.Bool.{cond-true, cond-false}
 use Rattle.text.proofs.Rows.{err_is}
 use Rattle.control.specs.Meaning.{meaning}
@@ -8,17 +6,14 @@ use Rattle.case.specs.Values.{values_of}
 use Rattle.system.specs.Answers.{fits}
 use Rattle.system.proofs.Outcomes.{sizes_agree, sizes_differ}
 use Rattle.certificate.specs.Certificates.{Invariant}
-use Rattle.checking.specs.Checking.{most_first_line, is_measured}
+use Rattle.checking.specs.Checking.{is_measured}
 use Rattle.checking.specs.Trusted.{trusted_answer}
 use Rattle.checking.specs.declared.faults.CheckFault.TheVariants.{Sizes}
 use Rattle.checking.proofs.Exact.{check_form}
+use Rattle.checking.proofs.Measuring.{measured_to}
 use Rattle.checking.proofs.Trusting.{accepted_invariant}
 use Rattle.checking.proofs.trusted.check.Goals as goal
 use Rattle.checking.proofs.trusted.check.Goals.{then-states-case-via-then-states-case, then-states-case-via-else-states-case+then-inputs-case}
-
--- what the test of a proof part says
-measured : (line : ℕ) (proofs : List ℕ) → true ≡ is_measured line proofs → (line ≤ most_first_line) × (length proofs ≤ text_limit)
-measured line proofs e = (grind (arith, nat_tests), grind (arith, nat_tests))
 
 pub returns-then-states-case : goal.returns-then-states-case
 returns-then-states-case g c =
@@ -39,7 +34,7 @@ returns-then-states-case g c =
 
 pub check_lines-requires : goal.check_lines-requires
 check_lines-requires g c =
-    let h = measured c.args.case.now.line c.args.case.now.proofs.now c.if-not-is_measured.ensures in
+    let h = measured_to c.args.case.now.line c.args.case.now.proofs.now (sym c.if-not-is_measured.ensures) in
     record { short = h; states = sym c.sizes-states.ensures.0 ∙ c.if-states-case.false; inputs = sym c.sizes-states.ensures.1 ∙ c.if-inputs-case.false }
 
 pub returns-then-not-is_measured : goal.returns-then-not-is_measured
