@@ -1,13 +1,12 @@
 -- Lemmas on bounded integers: tests, products, and what fits the code's numbers.
-use Rattle.std.proofs.Common.{◌≡◌, ℕ, zero, suc, ◌+◌, ◌*◌, ◌^◌, ◌<◌, ◌≤◌, true, false, ◌&&◌, T, leb, ◌⊎◌, List, [], ◌∷◌, length, get_or, drop, replicate, ℤ, pos, negsuc, ◌+ℤ◌, ◌-ℤ◌, ◌*ℤ◌, neg_ℤ, nat_abs, ◌≤ℤ◌, ◌<ℤ◌, sym, refl, ap, ◌∙◌, subst, inl, inr, arith, w64, SFits, to_z, of_z}
+use Rattle.std.proofs.Common.{◌≡◌, ℕ, zero, suc, ◌*◌, ◌^◌, ◌<◌, ◌≤◌, true, false, T, leb, ◌⊎◌, List, [], ◌∷◌, length, get_or, replicate, ℤ, pos, negsuc, ◌+ℤ◌, ◌-ℤ◌, ◌*ℤ◌, neg_ℤ, nat_abs, ◌≤ℤ◌, ◌<ℤ◌, sym, refl, subst, inl, inr, arith, w64, SFits, to_z, of_z}
 use lib.IntN.{pos-*ℤ-pos, pos-*ℤ-negsuc, negsuc-*ℤ-pos, negsuc-*ℤ-negsuc}
 use lib.Signed.{le_z}
 use Rattle.std.specs.List.{AllByRecursion}
 use Rattle.std.proofs.lemmas.Nat.{mul-le}
 use Rattle.std.proofs.ByRecursion.{All-weaker}
-use Rattle.std.proofs.lemmas.List.{at_drop_more}
 use Rattle.std.proofs.lemmas.Int.{ints, to_z-of_z}
-use Rattle.std.proofs.lemmas.Bool.{and_parts}
+use Rattle.std.proofs.lemmas.Bool.{and_parts, and_from}
 use Rattle.std.proofs.lemmas.Bool.Decides.{nat_tests}
 use Rattle.arith.specs.Bounds.{Within, within, all_within}
 
@@ -21,6 +20,13 @@ le_z_false a b e = grind (arith, ints)
 pub within_from_test : (m : ℕ) (z : ℤ) → within m z ≡ true → Within m z
 within_from_test m z e = let p = and_parts _ _ e in (record { le = subst T (sym p.0) tt }, record { le = subst T (sym p.1) tt })
 
+-- and the test of what is within
+pub test_from_within : (m : ℕ) (z : ℤ) → neg_ℤ (pos m) ≤ℤ z → z ≤ℤ pos m → within m z ≡ true
+test_from_within m z lo hi =
+    let a : le_z (neg_ℤ (pos m)) z ≡ true = grind (arith, ints) in
+    let b : le_z z (pos m) ≡ true = grind (arith, ints) in
+    and_from (le_z (neg_ℤ (pos m)) z) (le_z z (pos m)) a b
+
 pub all_from_test : (m : ℕ) (zs : List ℤ) → all_within m zs ≡ true → AllByRecursion (Within m) zs
 all_from_test m [] e = tt
 all_from_test m (z ∷ zs) e = let p = and_parts (within m z) (all_within m zs) e in (within_from_test m z p.0, all_from_test m zs p.1)
@@ -29,13 +35,6 @@ pub all_within_at : (m : ℕ) (zs : List ℤ) (i : ℕ) → i < length zs → al
 all_within_at m [] i lt e = absurd (omega arith)
 all_within_at m (z ∷ zs) zero lt e = (and_parts (within m z) (all_within m zs) e).0
 all_within_at m (z ∷ zs) (suc i) lt e = all_within_at m zs i (omega arith) (and_parts (within m z) (all_within m zs) e).1
-
--- one turn of a loop that tests each value
-pub all_within_out : (m : ℕ) (xs : List ℤ) (i : ℕ) → i < length xs → within m (get_or xs i (pos 0)) ≡ false → all_within m (drop i xs) ≡ false
-all_within_out m xs i lt e = at_drop_more (all_within m) xs i (pos 0) lt ∙ ap (λ b. b && all_within m (drop (i + 1) xs)) e
-
-pub all_within_in : (m : ℕ) (xs : List ℤ) (i : ℕ) → i < length xs → within m (get_or xs i (pos 0)) ≡ true → all_within m (drop i xs) ≡ all_within m (drop (i + 1) xs)
-all_within_in m xs i lt e = at_drop_more (all_within m) xs i (pos 0) lt ∙ ap (λ b. b && all_within m (drop (i + 1) xs)) e
 
 -- the test by the magnitude
 pub within_is : (m : ℕ) (z : ℤ) → leb (nat_abs z) m ≡ within m z
@@ -93,9 +92,6 @@ sign_within m s a v w =
 -- products and sums of numbers as the code computes them
 pub product_read : (s a : ℤ) → SFits w64 s → SFits w64 a → to_z w64 (of_z w64 s) *ℤ to_z w64 (of_z w64 a) ≡ s *ℤ a
 product_read s a f g = rw (to_z-of_z w64 s f, to_z-of_z w64 a g)
-
-pub code_product : (x y : ℤ) → SFits w64 x → SFits w64 y → SFits w64 (x *ℤ y) → to_z w64 (of_z w64 (to_z w64 (of_z w64 x) *ℤ to_z w64 (of_z w64 y))) ≡ x *ℤ y
-code_product x y f g h = simp to_z-of_z
 
 pub sum_read : (a b : ℤ) → SFits w64 a → SFits w64 b → to_z w64 (of_z w64 a) +ℤ to_z w64 (of_z w64 b) ≡ a +ℤ b
 sum_read a b f g = rw (to_z-of_z w64 a f, to_z-of_z w64 b g)

@@ -1,7 +1,7 @@
 // Bounds of integers and products of lists of integers.
 #![tactic(auto)]
 
-ghost use Rattle.std.specs.Prelude.{◌≡◌, ◌≤◌, length};
+ghost use Rattle.std.specs.Prelude.{◌≡◌, ◌≤◌, length, ◌*ℤ◌};
 ghost use Rattle.std.specs.List.{AllByRecursion};
 ghost use Rattle.arith.specs.Bounds.{Within, within, all_within};
 ghost use Rattle.arith.specs.Products.{dot, factor_limit, most_terms};
@@ -17,12 +17,29 @@ pub fn is_within(value: i64, limit: u64) -> bool
 pub fn all_within(values: &[i64], limit: u64) -> bool
     ensures { result ≡ all_within limit values.now }
 {
-    for value in values {
-        if !is_within(*value, limit) {
-            return false;
-        }
+    values.iter().all(|value| is_within(*value, limit))
+}
+
+// The product of two values, exact for all of them.
+fn product(a: i64, b: i64) -> i128
+    ensures { result ≡ a *ℤ b }
+{
+    i128::from(a) * i128::from(b)
+}
+
+// The sum of the products of the factors and the values at the same place; the values may be any.
+pub fn wide_product(factors: &[i64], values: &[i64]) -> i128
+    requires same { length factors.now ≡ length values.now }
+    requires few { length factors.now ≤ most_terms }
+    requires small { AllByRecursion (Within factor_limit) factors.now }
+    ensures { result ≡ dot factors.now values.now }
+{
+    let mut sum = 0;
+    // Not by `zip`: its items come to the proof without the range of their type.
+    for (i, factor) in factors.iter().enumerate() {
+        sum += product(*factor, values[i]);
     }
-    true
+    sum
 }
 
 // The sum of the products of the values at the same place.
@@ -33,9 +50,5 @@ pub fn dot_product(a: &[i64], b: &[i64]) -> i64
     requires second { AllByRecursion (Within factor_limit) b.now }
     ensures { result ≡ dot a.now b.now }
 {
-    let mut sum = 0;
-    for i in 0..a.len() {
-        sum += a[i] * b[i];
-    }
-    sum
+    wide_product(a, b) as i64
 }

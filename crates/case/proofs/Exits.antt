@@ -1,10 +1,9 @@
 -- What an Err or an Ok came from.
 use Rattle.std.proofs.Common.{◌≡◌, ℕ, List, ℤ, Ok, Err, Result, sym, refl, ap, ◌∙◌, arith}
-use Rattle.text.specs.Lines.{bind, padded, padded_line}
-use Rattle.text.specs.declared.faults.TextFault.{TextFault}
+use Rattle.text.specs.Lines.{bind}
 use Rattle.text.proofs.Forming.{ok_same}
-use Rattle.case.specs.Stored.{row_stored, rows_stored, held_rows, body_stored, rows_from}
-use Rattle.case.specs.Texts.{CaseText, as_case}
+use Rattle.case.specs.Stored.{rows_stored, held_rows, body_stored, rows_from}
+use Rattle.case.specs.Texts.{CaseText}
 use Rattle.case.specs.declared.faults.CaseFault.{CaseFault}
 use Rattle.case.specs.declared.rows.CaseRows.{CaseRows}
 
@@ -25,14 +24,6 @@ shown_err : {X Y E : Type 0} (f : X → Y) (r : Result (X × List ℕ) E) (e : E
 shown_err f (Ok p) e h = grind arith
 shown_err f (Err d) e h = let k : d ≡ e = cc in ap Err k
 
-line_is : (r : Result (List ℤ × List ℕ) TextFault) → padded_line r ≡ shown padded r
-line_is (Ok p) = refl
-line_is (Err e) = refl
-
-row_is : (r : Result (List ℤ × List ℕ) CaseFault) → row_stored r ≡ shown padded r
-row_is (Ok p) = refl
-row_is (Err e) = refl
-
 rows_is : (r : Result (List (List ℤ) × List ℕ) CaseFault) → rows_stored r ≡ shown held_rows r
 rows_is (Ok p) = refl
 rows_is (Err e) = refl
@@ -40,18 +31,6 @@ rows_is (Err e) = refl
 body_is : (r : Result (CaseText × List ℕ) CaseFault) → body_stored r ≡ shown rows_from r
 body_is (Ok p) = refl
 body_is (Err e) = refl
-
-pub line_ok : (r : Result (List ℤ × List ℕ) TextFault) (row : List ℤ) (rest : List ℕ) → Ok (row, rest) ≡ padded_line r → (zs : List ℤ) × (r ≡ Ok (zs, rest)) × (row ≡ padded zs)
-line_ok r row rest h = shown_ok padded r row rest (h ∙ line_is r)
-
-pub line_err : (r : Result (List ℤ × List ℕ) TextFault) (e : TextFault) → Err e ≡ padded_line r → r ≡ Err e
-line_err r e h = shown_err padded r e (h ∙ line_is r)
-
-pub row_ok : (r : Result (List ℤ × List ℕ) CaseFault) (row : List ℤ) (rest : List ℕ) → Ok (row, rest) ≡ row_stored r → (zs : List ℤ) × (r ≡ Ok (zs, rest)) × (row ≡ padded zs)
-row_ok r row rest h = shown_ok padded r row rest (h ∙ row_is r)
-
-pub row_err : (r : Result (List ℤ × List ℕ) CaseFault) (e : CaseFault) → Err e ≡ row_stored r → r ≡ Err e
-row_err r e h = shown_err padded r e (h ∙ row_is r)
 
 pub rows_ok : (r : Result (List (List ℤ) × List ℕ) CaseFault) (rows : List (List ℤ)) (rest : List ℕ) → Ok (rows, rest) ≡ rows_stored r
     → (zs : List (List ℤ)) × (r ≡ Ok (zs, rest)) × (rows ≡ held_rows zs)
@@ -66,7 +45,3 @@ body_ok r rows rest h = shown_ok rows_from r rows rest (h ∙ body_is r)
 
 pub body_err : (r : Result (CaseText × List ℕ) CaseFault) (e : CaseFault) → Err e ≡ body_stored r → r ≡ Err e
 body_err r e h = shown_err rows_from r e (h ∙ body_is r)
-
-pub as_case_ok : {X : Type 0} (r : Result X TextFault) (x : X) → as_case r ≡ Ok x → r ≡ Ok x
-as_case_ok (Ok y) x e = let k : y ≡ x = cc in ap Ok k
-as_case_ok (Err d) x e = grind arith

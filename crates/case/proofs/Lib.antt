@@ -1,6 +1,6 @@
-pub mod Collecting
 pub mod Composing
 pub mod Exits
+pub mod Faces
 pub mod Filling
 pub mod Finishing
 pub mod Judging
@@ -8,4 +8,5 @@ pub mod Keeping
 pub mod Lines
 pub mod Measuring
 pub mod Rendering
+pub mod Stored
 pub mod Storing

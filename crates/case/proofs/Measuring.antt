@@ -1,5 +1,5 @@
 -- The first section of a case text: its sizes.
-use Rattle.std.proofs.Common.{◌≡◌, ℕ, ◌-◌, ◌≤◌, List, [], ◌∷◌, length, get_or, ℤ, pos, negsuc, nat_abs, ◌≤ℤ◌, Ok, Err, Result, sym, refl, ap, ◌∙◌, arith, w64, to_z, of_z}
+use Rattle.std.proofs.Common.{◌≡◌, ℕ, ◌-◌, ◌≤◌, List, [], ◌∷◌, length, get_or, ℤ, pos, nat_abs, ◌≤ℤ◌, Ok, Err, Result, sym, refl, ap, ◌∙◌, arith, w64, to_z, of_z}
 use Rattle.std.specs.List.{AllByRecursion}
 use Rattle.std.proofs.lemmas.Int.{ints, to_z-of_z}
 use Rattle.arith.proofs.Bounds.{sfits_within}
@@ -8,16 +8,15 @@ use Rattle.text.specs.Forms.{Fit}
 use Rattle.text.specs.Lines.{bind, size_of, padded, row_width}
 use Rattle.text.specs.declared.faults.TextFault.{TextFault}
 use Rattle.case.specs.Fields.{sizes_limits}
-use Rattle.case.specs.Forms.{RowKept, SizesKept}
+use Rattle.case.specs.Forms.{RowKept, SizesKept, AnyRow}
 use Rattle.case.specs.Limits.{most_pushes, most_extras, divisor_limit}
 use Rattle.case.specs.Stored.{rows_stored, held_rows}
-use Rattle.case.specs.Texts.{as_case, sizes_names, section_of, size_at, sizes_of, sizes_section}
+use Rattle.case.specs.Texts.{CaseSizes, as_case, unjudged, sizes_names, section_of, size_at, sizes_of, sizes_section}
 use Rattle.case.specs.declared.faults.CaseFault.{CaseFault}
 use Rattle.case.specs.declared.faults.CaseFault.TheVariants.{Text}
-use Rattle.case.specs.declared.sections.Judge.TheVariants.{Nothing}
-use Rattle.case.specs.declared.sizes.Sizes.{Sizes}
 use Rattle.case.proofs.Exits.{rows_ok, rows_err}
-use Rattle.case.proofs.Judging.{padding}
+use Rattle.text.proofs.Padding.{padding, count_low, count_high, from_one}
+use Rattle.case.proofs.Judging.{accepts_any}
 use Rattle.case.proofs.Lines.{section_to}
 
 -- the five numbers of the line, within their limits
@@ -83,17 +82,6 @@ sizes_padded zs =
     let d = padding zs k 4 in
     rw (n, m, p, e, d) refl
 
-count_low : (z : ℤ) → pos 1 ≤ℤ z → 1 ≤ nat_abs z
-count_low (pos n) h = omega (arith, ints)
-count_low (negsuc n) h = absurd (omega (arith, ints))
-
-count_high : (z : ℤ) (k : ℕ) → pos 0 ≤ℤ z → z ≤ℤ pos k → nat_abs z ≤ k
-count_high (pos n) k l h = omega (arith, ints)
-count_high (negsuc n) k l h = absurd (omega (arith, ints))
-
-pub from_one : (z : ℤ) → pos 1 ≤ℤ z → pos 0 ≤ℤ z
-from_one z h = omega (arith, ints)
-
 pub sizes_kept : (row : List ℤ) → Five row → SizesKept (sizes_of row)
 sizes_kept row f = record {
   states_low = count_low _ f.n_low;
@@ -111,12 +99,9 @@ sizes_kept row f = record {
 read_back : (z : ℤ) (k : ℕ) → k ≤ divisor_limit → pos 0 ≤ℤ z → z ≤ℤ pos k → to_z w64 (of_z w64 z) ≡ z
 read_back z k small l h = to_z-of_z w64 z (sfits_within divisor_limit z (omega arith) (omega (arith, ints), omega (arith, ints)))
 
-pub count_small : (z : ℤ) (k : ℕ) → k ≤ most_extras → pos 0 ≤ℤ z → z ≤ℤ pos k → (pos 0 ≤ℤ to_z w64 (of_z w64 z)) × (to_z w64 (of_z w64 z) ≤ℤ pos most_extras)
-count_small z k small l h = rw (read_back z k (omega arith) l h) (l, omega (arith, ints))
-
 pub sizes_shown : (row : List ℤ) (n m p e : ℕ) → Five row → n ≡ nat_abs (to_z w64 (of_z w64 (get_or row 0 (pos 0)))) → m ≡ nat_abs (to_z w64 (of_z w64 (get_or row 1 (pos 0))))
     → p ≡ nat_abs (to_z w64 (of_z w64 (get_or row 2 (pos 0)))) → e ≡ nat_abs (to_z w64 (of_z w64 (get_or row 3 (pos 0))))
-    → ◌≡◌ {A = Sizes} (record { states = n; inputs = m; pushes = p; extras = e; divisor = to_z w64 (of_z w64 (get_or row 4 (pos 0))) }) (sizes_of row)
+    → ◌≡◌ {A = CaseSizes} (record { states = n; inputs = m; pushes = p; extras = e; divisor = to_z w64 (of_z w64 (get_or row 4 (pos 0))) }) (sizes_of row)
 sizes_shown row n m p e f hn hm hp he =
     let a : n ≡ size_at row 0 = hn ∙ ap nat_abs (read_back _ most_states (omega arith) (from_one _ f.n_low) f.n_high) in
     let b : m ≡ size_at row 1 = hm ∙ ap nat_abs (read_back _ most_inputs (omega arith) (from_one _ f.m_low) f.m_high) in
@@ -126,16 +111,16 @@ sizes_shown row n m p e f hn hm hp he =
     rw (a, b, c, d, g) refl
 
 -- the only row of the section
-pub only : (rows : List (List ℤ)) → AllByRecursion (RowKept sizes_limits Nothing) rows → length rows ≡ 1 → (rows ≡ get_or rows 0 [] ∷ []) × Fit sizes_limits (get_or rows 0 [])
+pub only : (rows : List (List ℤ)) → AllByRecursion (RowKept sizes_limits AnyRow) rows → length rows ≡ 1 → (rows ≡ get_or rows 0 [] ∷ []) × Fit sizes_limits (get_or rows 0 [])
 only [] k l = absurd (omega arith)
 only (row ∷ []) k l = (refl, k.0.0)
 only (row ∷ b ∷ rows) k l = absurd (omega arith)
 
 module _ (text : List ℕ) where
   abbrev pub first_section : Result (List (List ℤ) × List ℕ) CaseFault
-  first_section = section_of sizes_names sizes_limits Nothing 1 1 text
+  first_section = section_of sizes_names sizes_limits unjudged 1 1 text
 
-  abbrev pub after_section : List (List ℤ) × List ℕ → Result (Sizes × List ℕ) CaseFault
+  abbrev pub after_section : List (List ℤ) × List ℕ → Result (CaseSizes × List ℕ) CaseFault
   after_section p = Ok (sizes_of (get_or p.0 0 []), p.1)
 
   pub size_refused : (e : TextFault) → Err e ≡ size_of text → Err (Text e) ≡ sizes_section text
@@ -152,7 +137,7 @@ module _ (text : List ℕ) where
         → Five (get_or rows 0 []) × (Ok (sizes_of (get_or rows 0 []), rest) ≡ sizes_section text)
     sizes_read rows rest h =
         let p = rows_ok first_section rows rest h in
-        let s = section_to sizes_limits (omega arith) Nothing sizes_names 1 1 text p.0 rest p.1 in
+        let s = section_to accepts_any sizes_limits (omega arith) sizes_names 1 1 text p.0 rest p.1 in
         let o = only p.0 s.1 s.2 in
         let r : get_or rows 0 [] ≡ padded (get_or p.0 0 []) = ap (λ t. get_or t 0 []) (p.2 ∙ ap held_rows o.0) in (
           rw r (five_padded (get_or p.0 0 []) (five (get_or p.0 0 []) o.1)),

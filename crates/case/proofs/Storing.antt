@@ -7,19 +7,18 @@ use Rattle.control.specs.Limits.{most_states, most_inputs}
 use Rattle.text.specs.Lines.{padded, row_width}
 use Rattle.text.proofs.Forming.{fit_length}
 use Rattle.case.specs.Fields.{around, dynamics_limits, extra_limits}
-use Rattle.case.specs.Forms.{RowKept, CaseKept, sizes_from}
+use Rattle.case.specs.Forms.{RowKept, AnyRow, CaseKept, sizes_from}
 use Rattle.case.specs.Limits.{most_pushes, most_extras, entry_limit, extra_limit, all_equations_ok, all_bounds_ok, all_extras_ok, all_wide}
-use Rattle.case.specs.Stored.{filled, equation_from, equations_from, bounds_from, extra_from, case_values, padded_equation, padded_extra, no_equation, no_bounds, no_extra, Stored, line_after, stored_values, held_rows, rows_from}
-use Rattle.case.specs.Texts.{CaseText, proofs_line}
+use Rattle.text.specs.Blocks.{filled}
+use Rattle.case.specs.Stored.{equation_from, equations_from, bounds_from, extra_from, case_values, padded_equation, padded_extra, no_equation, no_bounds, no_extra, Stored, line_after, stored_values, held_rows, rows_from}
+use Rattle.case.specs.Texts.{CaseText, CaseSizes, proofs_line}
 use Rattle.case.specs.Values.{CaseValues, equation_of, extra_of}
 use Rattle.case.specs.declared.rows.CaseRows.{CaseRows}
-use Rattle.case.specs.declared.sections.Judge.TheVariants.{Nothing}
-use Rattle.case.specs.declared.sizes.Sizes.{Sizes}
 use Rattle.case.specs.declared.values.ExtraFace.{ExtraFace}
 use Rattle.case.specs.declared.values.PushBounds.{PushBounds}
 use Rattle.case.specs.declared.values.StateEquation.{StateEquation}
 use Rattle.case.proofs.Filling.{filled_length}
-use Rattle.case.proofs.Judging.{padding}
+use Rattle.text.proofs.Padding.{padding}
 use Rattle.case.proofs.Keeping.{equations_kept, wide_kept, bounds_kept, extras_kept}
 
 -- Rows with zeros behind them.
@@ -70,10 +69,10 @@ front_equations n m p (s ∷ ss) (d ∷ ds) xs ys l k =
     ap (λ e. padded_equation e ∷ take (length ss) (map padded_equation (equations_from n m p (map padded ss ++ xs) (map padded ds ++ ys)))) (equation_padded n m p s d k.0)
     ∙ ap (λ t. padded_equation (equation_from n m p s d) ∷ t) (front_equations n m p ss ds xs ys (omega arith) k.1)
 
-dynamics_long : (w : ℕ) (d : List ℤ) → RowKept (dynamics_limits w) Nothing d → w ≤ length d
+pub dynamics_long : (w : ℕ) (d : List ℤ) → RowKept (dynamics_limits w) AnyRow d → w ≤ length d
 dynamics_long w d k = omega (arith, fit_length (dynamics_limits w) d k.0, length-replicate w (around entry_limit))
 
-extra_long : (n : ℕ) (row : List ℤ) → RowKept (extra_limits n) Nothing row → n ≤ length row
+pub extra_long : (n : ℕ) (row : List ℤ) → RowKept (extra_limits n) AnyRow row → n ≤ length row
 extra_long n row k =
     omega (arith, fit_length (extra_limits n) row k.0, length-append (replicate n (around entry_limit)) (around extra_limit ∷ []), length-replicate n (around entry_limit))
 
@@ -113,7 +112,7 @@ extras_back n (row ∷ rows) k =
 
 -- A case text that keeps the limits.
 
-module _ (t : CaseText) (kept : CaseKept t) (k : Sizes) (sizes : sizes_from t ≡ k) where
+module _ (t : CaseText) (kept : CaseKept t) (k : CaseSizes) (sizes : sizes_from t ≡ k) where
   abbrev values : CaseValues
   values = case_values t
 

@@ -1,15 +1,9 @@
 -- The limits of the numbers of a case text, line by line.
-use Rattle.std.specs.Prelude.{ℕ, List, [], ◌∷◌, ◌++◌, replicate, ℤ, pos, neg_ℤ}
+use Rattle.std.specs.Prelude.{ℕ, List, [], ◌∷◌, ◌++◌, replicate, pos}
 use Rattle.control.specs.Limits.{most_states, most_inputs}
+pub use Rattle.text.specs.Limits.{from_to, around}
 use Rattle.text.specs.declared.number.Limit.{Limit}
 use Rattle.case.specs.Limits.{most_pushes, most_extras, divisor_limit, bound_limit, entry_limit, constant_limit, extra_limit, leeway_limit}
-
-abbrev pub from_to : ℤ → ℤ → Limit
-from_to low high = record { low = low; high = high }
-
--- magnitude at most k
-abbrev pub around : ℕ → Limit
-around k = from_to (neg_ℤ (pos k)) (pos k)
 
 -- states, inputs, pushes, extra faces and divisor
 abbrev pub sizes_limits : List Limit

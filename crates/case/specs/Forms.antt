@@ -2,31 +2,23 @@
 use Rattle.std.specs.Prelude.{◌≡◌, ℕ, ◌+◌, ◌≤◌, List, [], ◌∷◌, length, ℤ, pos, ◌+ℤ◌, ◌*ℤ◌, ◌≤ℤ◌, Ok, slice_index_or}
 use Rattle.std.specs.List.{AllByRecursion}
 use Rattle.control.specs.Limits.{most_states, most_inputs}
-use Rattle.text.specs.Forms.{Iff, Fit}
+use Rattle.text.specs.Forms.{Iff}
+pub use Rattle.text.specs.Blocks.{rows_before, RowKept}
 use Rattle.text.specs.Lines.{text_limit}
-use Rattle.text.specs.Render.{fields_text, line_before}
-use Rattle.text.specs.declared.number.Limit.{Limit}
+use Rattle.text.specs.Render.{line_before}
 use Rattle.case.specs.Fields.{state_limits, push_limits, dynamics_limits, extra_limits}
 use Rattle.case.specs.Limits.{most_pushes, most_extras, divisor_limit}
-use Rattle.case.specs.Texts.{CaseText, sizes_names, state_names, push_names, dynamics_names, extra_names, proof_names, case_of}
-use Rattle.case.specs.declared.sections.Judge.{Judge}
-use Rattle.case.specs.declared.sections.Judge.TheVariants.{Nothing, Range, State}
-use Rattle.case.specs.declared.sizes.Sizes.{Sizes}
-
--- lines of numbers before the rest of a text
-abbrev pub rows_before : List (List ℤ) → List ℕ → List ℕ
-rows_before [] rest = rest
-rows_before (row ∷ rows) rest = line_before (fields_text row) (rows_before rows rest)
+use Rattle.case.specs.Texts.{CaseText, CaseSizes, sizes_names, state_names, push_names, dynamics_names, extra_names, proof_names, case_of}
 
 -- a section before the rest of a text
 abbrev pub section_before : List ℕ → List (List ℤ) → List ℕ → List ℕ
 section_before names rows rest = line_before names (rows_before rows rest)
 
 -- the numbers of states, inputs, pushes and extra faces, and the divisor
-abbrev pub sizes_from : CaseText → Sizes
+abbrev pub sizes_from : CaseText → CaseSizes
 sizes_from t = record { states = length t.states; inputs = t.inputs; pushes = length t.pushes; extras = length t.extras; divisor = t.divisor }
 
-abbrev pub sizes_row : Sizes → List ℤ
+abbrev pub sizes_row : CaseSizes → List ℤ
 sizes_row k = pos k.states ∷ pos k.inputs ∷ pos k.pushes ∷ pos k.extras ∷ k.divisor ∷ []
 
 -- the sections behind the sizes, and then the proof part
@@ -39,7 +31,7 @@ body_before t proofs =
 abbrev pub case_before : CaseText → List ℕ → List ℕ
 case_before t proofs = section_before sizes_names (sizes_row (sizes_from t) ∷ []) (body_before t proofs)
 
-pub record SizesKept (k : Sizes) : Type 0 where
+pub record SizesKept (k : CaseSizes) : Type 0 where
   pub states_low : 1 ≤ k.states
   pub states_high : k.states ≤ most_states
   pub inputs_low : 1 ≤ k.inputs
@@ -50,22 +42,22 @@ pub record SizesKept (k : Sizes) : Type 0 where
   pub divisor_high : k.divisor ≤ℤ pos divisor_limit
 
 -- low not above high, and 2 × leeway + 1 not below the divisor
-abbrev pub Judged : Judge → List ℤ → Type 0
-Judged Nothing row = Unit {0}
-Judged Range row = slice_index_or row 0 (pos 0) ≤ℤ slice_index_or row 1 (pos 0)
-Judged (State divisor) row = (slice_index_or row 0 (pos 0) ≤ℤ slice_index_or row 1 (pos 0)) × (divisor ≤ℤ (pos 2 *ℤ slice_index_or row 2 (pos 0) +ℤ pos 1))
+abbrev pub InOrder : List ℤ → Type 0
+InOrder row = slice_index_or row 0 (pos 0) ≤ℤ slice_index_or row 1 (pos 0)
 
--- each number within its limit, and the line judged good
-abbrev pub RowKept : List Limit → Judge → List ℤ → Type 0
-RowKept limits judge row = Fit limits row × Judged judge row
+abbrev pub GoodState : ℤ → List ℤ → Type 0
+GoodState divisor row = InOrder row × (divisor ≤ℤ (pos 2 *ℤ slice_index_or row 2 (pos 0) +ℤ pos 1))
+
+abbrev pub AnyRow : List ℤ → Type 0
+AnyRow row = Unit {0}
 
 pub record CaseKept (t : CaseText) : Type 0 where
   pub sizes : SizesKept (sizes_from t)
   pub long : length t.dynamics ≡ length t.states
-  pub each_state : AllByRecursion (RowKept state_limits (State t.divisor)) t.states
-  pub each_push : AllByRecursion (RowKept push_limits Range) t.pushes
-  pub each_dynamics : AllByRecursion (RowKept (dynamics_limits (length t.states + t.inputs + length t.pushes)) Nothing) t.dynamics
-  pub each_extra : AllByRecursion (RowKept (extra_limits (length t.states)) Nothing) t.extras
+  pub each_state : AllByRecursion (RowKept state_limits (GoodState t.divisor)) t.states
+  pub each_push : AllByRecursion (RowKept push_limits InOrder) t.pushes
+  pub each_dynamics : AllByRecursion (RowKept (dynamics_limits (length t.states + t.inputs + length t.pushes)) AnyRow) t.dynamics
+  pub each_extra : AllByRecursion (RowKept (extra_limits (length t.states)) AnyRow) t.extras
 
 -- a text is read as these values, with this proof part, exactly when it is their rendering followed by the proof part, the values keep the limits, and the whole is not too long
 unfoldable pub CaseForm : List ℕ → Type 0

@@ -1,5 +1,6 @@
 -- The limits of the numbers of a case.
-use Rattle.std.specs.Prelude.{ℕ, Bool, true, ◌&&◌, List, [], ◌∷◌, length, ℤ, pos, ◌+ℤ◌, ◌*ℤ◌, ◌==◌, int_le}
+use Rattle.std.specs.Prelude.{ℕ, Bool, ◌&&◌, List, length, ℤ, pos, ◌+ℤ◌, ◌*ℤ◌, ◌==◌, int_le}
+use Rattle.std.specs.List.{list_all}
 use Rattle.arith.specs.Bounds.{within, all_within}
 use Rattle.control.specs.Limits.{most_states, most_inputs}
 use Rattle.case.specs.declared.values.StateEquation.{StateEquation}
@@ -52,21 +53,17 @@ abbrev pub extra_ok : ExtraFace → Bool
 extra_ok f = row_ok most_states f.coefficients && within extra_limit f.right
 
 abbrev pub all_equations_ok : List StateEquation → Bool
-all_equations_ok [] = true
-all_equations_ok (s ∷ ss) = equation_ok s && all_equations_ok ss
+all_equations_ok = list_all equation_ok
 
 abbrev pub all_bounds_ok : List PushBounds → Bool
-all_bounds_ok [] = true
-all_bounds_ok (b ∷ bs) = bounds_ok b && all_bounds_ok bs
+all_bounds_ok = list_all bounds_ok
 
 abbrev pub all_extras_ok : List ExtraFace → Bool
-all_extras_ok [] = true
-all_extras_ok (f ∷ fs) = extra_ok f && all_extras_ok fs
+all_extras_ok = list_all extra_ok
 
 -- 2 × leeway + 1 reaches the divisor
 abbrev pub is_wide : ℤ → StateEquation → Bool
 is_wide divisor s = int_le divisor (pos 2 *ℤ s.leeway +ℤ pos 1)
 
 abbrev pub all_wide : ℤ → List StateEquation → Bool
-all_wide divisor [] = true
-all_wide divisor (s ∷ ss) = is_wide divisor s && all_wide divisor ss
+all_wide divisor = list_all (is_wide divisor)

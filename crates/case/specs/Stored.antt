@@ -1,20 +1,20 @@
 -- What a case text means, and what it stores in the caller's place.
-use Rattle.std.specs.Prelude.{◌≡◌, ℕ, ◌+◌, ◌-◌, ◌*◌, List, [], ◌∷◌, ◌++◌, map, length, take, drop, replicate, ℤ, pos, Ok, Err, Result, slice_index_or}
+use Rattle.std.specs.Prelude.{◌≡◌, ℕ, ◌+◌, ◌*◌, ◌<◌, List, [], ◌∷◌, map, length, take, drop, ℤ, pos, Ok, Err, Result, slice_index_or}
+use Rattle.std.specs.Borrow.{Bor}
 use Rattle.control.specs.Limits.{most_states, most_inputs}
-use Rattle.text.specs.Lines.{bind, padded, row_width}
+use Rattle.text.specs.Blocks.{filled, rows_held}
+use Rattle.text.specs.Blocks as blocks
+use Rattle.text.specs.Lines.{bind}
 use Rattle.case.specs.Limits.{most_pushes, most_extras}
-use Rattle.case.specs.Texts.{CaseText}
+use Rattle.case.specs.Texts.{CaseText, CaseSizes}
 use Rattle.case.specs.Values.{CaseValues, state_count, push_count, values_of}
 use Rattle.case.specs.declared.faults.CaseFault.{CaseFault}
 use Rattle.case.specs.declared.rows.CaseRows.{CaseRows}
+use Rattle.case.specs.declared.sizes.Sizes.{Sizes}
 use Rattle.case.specs.declared.values.StateEquation.{StateEquation}
 use Rattle.case.specs.declared.values.PushBounds.{PushBounds}
 use Rattle.case.specs.declared.values.ExtraFace.{ExtraFace}
 use Rattle.case.specs.declared.values.Case.{Case}
-
--- a list of so many places, with a value for those that it lacks
-abbrev pub filled : {X : Type 0} → ℕ → X → List X → List X
-filled width x xs = xs ++ replicate (width - length xs) x
 
 -- The values that a case text writes.
 
@@ -152,20 +152,12 @@ CaseMeant (Err e) c = Unit {0}
 
 -- Rows as they are held while the text is read.
 
-abbrev pub zero_row : List ℤ
-zero_row = replicate row_width (pos 0)
-
 -- no section has more lines than that of the extra faces
 abbrev pub held_rows : List (List ℤ) → List (List ℤ)
-held_rows rows = filled most_extras zero_row (map padded rows)
-
-abbrev pub row_stored : Result (List ℤ × List ℕ) CaseFault → Result (List ℤ × List ℕ) CaseFault
-row_stored (Ok p) = Ok (padded p.0, p.1)
-row_stored (Err e) = Err e
+held_rows rows = blocks.held_rows most_extras rows
 
 abbrev pub rows_stored : Result (List (List ℤ) × List ℕ) CaseFault → Result (List (List ℤ) × List ℕ) CaseFault
-rows_stored (Ok p) = Ok (held_rows p.0, p.1)
-rows_stored (Err e) = Err e
+rows_stored r = rows_held most_extras r
 
 abbrev pub rows_from : CaseText → CaseRows
 rows_from t = record { states = held_rows t.states; pushes = held_rows t.pushes; dynamics = held_rows t.dynamics; extras = held_rows t.extras }
@@ -173,3 +165,15 @@ rows_from t = record { states = held_rows t.states; pushes = held_rows t.pushes;
 abbrev pub body_stored : Result (CaseText × List ℕ) CaseFault → Result (CaseRows × List ℕ) CaseFault
 body_stored (Ok p) = Ok (rows_from p.0, p.1)
 body_stored (Err e) = Err e
+
+-- what is made for each of the first places is what a list has there
+abbrev pub Makes : {X : Type 0} → (ℕ → X → Type 0) → ℕ → X → List X → Type 0
+Makes {X} gives count blank ys = (i : ℕ) (y : X) → i < count → gives i y → y ≡ slice_index_or ys i blank
+
+-- sizes, as the code holds them
+abbrev pub sizes_seen : Sizes → CaseSizes
+sizes_seen k = record { states = k.states; inputs = k.inputs; pushes = k.pushes; extras = k.extras; divisor = k.divisor }
+
+abbrev pub sizes_told : Result (Sizes × Bor (List ℕ)) CaseFault → Result (CaseSizes × List ℕ) CaseFault
+sizes_told (Ok p) = Ok (sizes_seen p.0, p.1.now)
+sizes_told (Err e) = Err e

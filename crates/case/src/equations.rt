@@ -1,7 +1,7 @@
 // What the rows of a case text write: equations, bounds and extra faces.
-ghost use Rattle.std.specs.Prelude.{◌≡◌, ◌+◌, ◌≤◌, map, take, drop, pos};
-ghost use Rattle.case.specs.Forms.{SizesKept};
-ghost use Rattle.case.specs.Stored.{filled, equation_from, equations_from, bounds_from, extra_from, padded_equation, padded_extra, no_equation, no_bounds, no_extra};
+ghost use Rattle.std.specs.Prelude.{◌≡◌, ℕ, ◌+◌, ◌<◌, ◌≤◌, List, map, take, drop, pos};
+ghost use Rattle.text.specs.Blocks.{filled};
+ghost use Rattle.case.specs.Stored.{Makes, bounds_from, no_equation, no_bounds, no_extra};
 
 use crate::rows::CaseRows;
 use crate::sizes::Sizes;
@@ -25,6 +25,21 @@ pub(crate) const NO_EXTRA: ExtraFace = ExtraFace {
     right: 0,
 };
 
+// What is made for the first `count` places, and a blank in each further place. The room is asked for here, as it concerns a
+// const parameter and a count of this one call.
+fn places<T: Copy, F: Fn(usize) -> T, const N: usize>(count: usize, blank: T, make: F) -> [T; N]
+    requires room { count ≤ N }
+    requires callable { (i : ℕ) → i < count → F.pre make i }
+    ensures { (ys : List T) → Makes (F.post make) count blank ys → result ≡ filled N blank (take count ys) }
+{
+    let mut places = [blank; N];
+    // An index loop: with `from_fn` or `iter_mut` and `enumerate` the proof did not know what stands at a place afterwards.
+    for i in 0..count {
+        places[i] = make(i);
+    }
+    places
+}
+
 // `count` numbers of a row from `from` on, then zeros.
 fn part<const N: usize>(row: &[i64; 8], from: usize, count: usize) -> [i64; N]
     requires within { from + count ≤ 8 }
@@ -32,77 +47,74 @@ fn part<const N: usize>(row: &[i64; 8], from: usize, count: usize) -> [i64; N]
     ensures { result ≡ filled N (pos 0) (take count (drop from row.now)) }
 {
     let mut part = [0; N];
-    for i in 0..count {
-        part[i] = row[from + i];
-    }
+    part[..count].copy_from_slice(&row[from..from + count]);
     part
 }
 
-// A state, by its own row and its row of dynamics.
-fn equation(sizes: Sizes, state: &[i64; 8], dynamics: &[i64; 8]) -> StateEquation
-    requires { SizesKept sizes }
-    ensures { result ≡ padded_equation (equation_from sizes.states sizes.inputs sizes.pushes state.now dynamics.now) }
+// The bounds of a push, by its row.
+fn push_bounds(row: &[i64; 8]) -> PushBounds
+    ensures { result ≡ bounds_from row.now }
 {
-    StateEquation {
-        low: state[0],
-        high: state[1],
-        leeway: state[2],
-        constant: state[3],
-        a: part(dynamics, 0, sizes.states),
-        b: part(dynamics, sizes.states, sizes.inputs),
-        e: part(dynamics, sizes.states + sizes.inputs, sizes.pushes),
+    PushBounds {
+        low: row[0],
+        high: row[1],
     }
 }
 
-// An extra face, by its row.
-fn extra(states: usize, row: &[i64; 8]) -> ExtraFace
-    requires { states ≤ 4 }
-    ensures { result ≡ padded_extra (extra_from states row.now) }
-{
-    ExtraFace {
-        coefficients: part(row, 0, states),
-        right: row[states],
+impl Sizes {
+    ghost use Rattle.case.specs.Stored.{extra_from, equation_from, padded_extra, padded_equation};
+
+    // A state, by its own row and its row of dynamics.
+    fn equation(self, state: &[i64; 8], dynamics: &[i64; 8]) -> StateEquation
+        ensures { result ≡ padded_equation (equation_from self.states self.inputs self.pushes state.now dynamics.now) }
+    {
+        StateEquation {
+            low: state[0],
+            high: state[1],
+            leeway: state[2],
+            constant: state[3],
+            a: part(dynamics, 0, self.states),
+            b: part(dynamics, self.states, self.inputs),
+            e: part(dynamics, self.states + self.inputs, self.pushes),
+        }
+    }
+
+    // An extra face, by its row.
+    fn extra(self, row: &[i64; 8]) -> ExtraFace
+        ensures { result ≡ padded_extra (extra_from self.states row.now) }
+    {
+        ExtraFace {
+            coefficients: part(row, 0, self.states),
+            right: row[self.states],
+        }
     }
 }
 
 impl CaseRows {
+    ghost use Rattle.case.specs.Stored.{extra_from, equations_from, padded_extra, padded_equation};
+
     // The states' equations.
     pub(crate) fn equations(&self, sizes: Sizes) -> [StateEquation; 4]
-        requires { SizesKept sizes }
         ensures { result ≡ filled 4 no_equation (take sizes.states (map padded_equation (equations_from sizes.states sizes.inputs sizes.pushes self.now.states self.now.dynamics))) }
     {
-        let mut equations = [NO_EQUATION; 4];
-        for i in 0..sizes.states {
-            equations[i] = equation(sizes, &self.states[i], &self.dynamics[i]);
-        }
-        equations
+        places(
+            sizes.states,
+            NO_EQUATION,
+            |i| sizes.equation(&self.states[i], &self.dynamics[i]),
+        )
     }
 
-    // The bounds of `count` pushes.
-    pub(crate) fn bounds(&self, count: usize) -> [PushBounds; 2]
-        requires { count ≤ 2 }
-        ensures { result ≡ filled 2 no_bounds (take count (map bounds_from self.now.pushes)) }
+    // The pushes' bounds.
+    pub(crate) fn bounds(&self, sizes: Sizes) -> [PushBounds; 2]
+        ensures { result ≡ filled 2 no_bounds (take sizes.pushes (map bounds_from self.now.pushes)) }
     {
-        let mut bounds = [NO_BOUNDS; 2];
-        for i in 0..count {
-            bounds[i] = PushBounds {
-                low: self.pushes[i][0],
-                high: self.pushes[i][1],
-            };
-        }
-        bounds
+        places(sizes.pushes, NO_BOUNDS, |i| push_bounds(&self.pushes[i]))
     }
 
-    // The `count` extra faces.
-    pub(crate) fn extra_faces(&self, states: usize, count: usize) -> [ExtraFace; 8]
-        requires few { count ≤ 8 }
-        requires narrow { states ≤ 4 }
-        ensures { result ≡ filled 8 no_extra (take count (map padded_extra (map (extra_from states) self.now.extras))) }
+    // The extra faces.
+    pub(crate) fn extra_faces(&self, sizes: Sizes) -> [ExtraFace; 8]
+        ensures { result ≡ filled 8 no_extra (take sizes.extras (map padded_extra (map (extra_from sizes.states) self.now.extras))) }
     {
-        let mut faces = [NO_EXTRA; 8];
-        for i in 0..count {
-            faces[i] = extra(states, &self.extras[i]);
-        }
-        faces
+        places(sizes.extras, NO_EXTRA, |i| sizes.extra(&self.extras[i]))
     }
 }

@@ -6,8 +6,7 @@ ghost use Rattle.case.specs.Texts.{case_of};
 
 use crate::equations::{NO_BOUNDS, NO_EQUATION, NO_EXTRA};
 use crate::faults::CaseFault;
-use crate::rows::{first_proof, read_body};
-use crate::sizes::read_sizes;
+use crate::sizes::Sizes;
 use crate::values::Case;
 
 impl<'t> Case<'t> {
@@ -38,8 +37,8 @@ pub fn read_case<'t>(text: &'t [u8], place: &mut Case<'t>) -> Result<(), CaseFau
     ensures meant { CaseMeant (case_of text.now) place.new }
     ensures form { CaseForm text.now }
 {
-    let (sizes, rest) = read_sizes(text)?;
-    let (rows, proofs) = read_body(sizes, rest)?;
+    let (sizes, rest) = Sizes::read(text)?;
+    let (rows, proofs) = sizes.read_body(rest)?;
     *place = Case {
         states: sizes.states,
         inputs: sizes.inputs,
@@ -47,10 +46,10 @@ pub fn read_case<'t>(text: &'t [u8], place: &mut Case<'t>) -> Result<(), CaseFau
         extras: sizes.extras,
         divisor: sizes.divisor,
         equations: rows.equations(sizes),
-        bounds: rows.bounds(sizes.pushes),
-        extra: rows.extra_faces(sizes.states, sizes.extras),
+        bounds: rows.bounds(sizes),
+        extra: rows.extra_faces(sizes),
         proofs,
-        line: first_proof(sizes),
+        line: sizes.first_proof(),
     };
     Ok(())
 }

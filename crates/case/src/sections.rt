@@ -1,25 +1,17 @@
 // The sections of a case text: a names line and then lines of values.
-ghost use Rattle.std.specs.Prelude.{◌≡◌, ◌≤◌, take};
-ghost use Rattle.text.specs.Lines.{with_rest, row_width};
-ghost use Rattle.case.specs.Texts.{in_order, wide_enough, judged, row_line, rows_of, section_of};
-ghost use Rattle.case.specs.Stored.{row_stored, rows_stored};
+ghost use Rattle.std.specs.Prelude.{◌≡◌, ◌<◌, ◌≤◌, length};
+ghost use Rattle.text.specs.Lines.{row_width};
+ghost use Rattle.case.specs.Limits.{most_extras};
+ghost use Rattle.case.specs.Texts.{in_order, state_judged, wide_enough};
 
 use crate::faults::CaseFault;
+use text::blocks::row_lines;
 use text::faults::Place;
-use text::lines::{names_line, row_line};
+use text::lines::names_line;
 use text::number::Limit;
 
-// What is judged over a whole line: nothing, that low is not above high, and of a state also that its leeway suffices for
-// the divisor.
-#[derive(Clone, Copy)]
-pub enum Judge {
-    Nothing,
-    Range,
-    State(i64),
-}
-
 // Whether low, the first number of a row, is not above high, the second.
-fn in_order(line: u32, row: &[i64; 8]) -> Result<(), CaseFault>
+pub(crate) fn in_order(line: u32, row: &[i64; 8]) -> Result<(), CaseFault>
     ensures { result ≡ in_order line row.now }
 {
     if row[0] > row[1] {
@@ -38,71 +30,44 @@ fn wide_enough(divisor: i64, line: u32, row: &[i64; 8]) -> Result<(), CaseFault>
     Ok(())
 }
 
-impl Judge {
-    // Whether the row of a line is good.
-    fn row(self, line: u32, row: &[i64; 8]) -> Result<(), CaseFault>
-        ensures { result ≡ judged self line row.now }
+// Whether the row of a state is good: low not above high, and a leeway that suffices for the divisor.
+pub(crate) fn good_state(divisor: i64, line: u32, row: &[i64; 8]) -> Result<(), CaseFault>
+    ensures { result ≡ state_judged divisor line row.now }
+{
+    in_order(line, row)?;
+    wide_enough(divisor, line, row)
+}
+
+// A section: the line of its names, the names, the limits of the numbers of a line, and how many lines it has.
+#[derive(Clone, Copy)]
+pub struct Section<'a> {
+    pub line: u32,
+    pub names: &'a [u8],
+    pub limits: &'a [Limit],
+    pub count: usize,
+    ghost early: { line < 100 },
+    ghost narrow: { length limits.now ≤ row_width },
+    ghost few: { count ≤ most_extras },
+}
+
+impl Section<'_> {
+    ghost use Rattle.std.specs.Prelude.{ℕ, List, ℤ};
+    ghost use Rattle.text.specs.Blocks.{Judgement, Judges};
+    ghost use Rattle.text.specs.Lines.{with_rest};
+    ghost use Rattle.case.specs.Stored.{rows_stored};
+    ghost use Rattle.case.specs.Texts.{section_of};
+    ghost use Rattle.case.specs.declared.faults.CaseFault.{CaseFault as Fault};
+
+    // The numbers of the lines, each of which a judge accepts, and the text after them.
+    pub(crate) fn read<'t, J: Fn(u32, &[i64; 8]) -> Result<(), CaseFault>>(
+        self,
+        text: &'t [u8],
+        judge: J,
+    ) -> Result<([[i64; 8]; 8], &'t [u8]), CaseFault>
+        requires { J.IsAlwaysCallable judge }
+        ensures { (judged : Judgement Fault) → Judges (J.post judge) judged → with_rest result ≡ rows_stored (section_of self.entry.names.now self.entry.limits.now judged self.entry.count self.entry.line text.now) }
     {
-        match self {
-            Judge::Nothing => Ok(()),
-            Judge::Range => in_order(line, row),
-            Judge::State(divisor) => {
-                in_order(line, row)?;
-                wide_enough(divisor, line, row)
-            }
-        }
+        let rest = names_line(text, self.line, self.names)?;
+        row_lines(rest, self.line + 1, self.limits, self.count, judge)
     }
-}
-
-// The numbers of one line, and the text after it.
-fn read_row<'a>(
-    text: &'a [u8],
-    line: u32,
-    limits: &[Limit],
-    judge: Judge,
-) -> Result<([i64; 8], &'a [u8]), CaseFault>
-    ensures { with_rest result ≡ row_stored (row_line (take row_width limits.now) judge line text.now) }
-{
-    let (row, rest) = row_line(text, line, limits)?;
-    judge.row(line, &row)?;
-    Ok((row, rest))
-}
-
-// The numbers of `count` lines from a line on, and the text after them.
-fn read_rows<'a>(
-    text: &'a [u8],
-    line: u32,
-    limits: &[Limit],
-    judge: Judge,
-    count: usize,
-) -> Result<([[i64; 8]; 8], &'a [u8]), CaseFault>
-    requires few { count ≤ 8 }
-    requires early { line ≤ 100 }
-    ensures { with_rest result ≡ rows_stored (rows_of (take row_width limits.now) judge count line text.now) }
-{
-    let mut rows = [[0; 8]; 8];
-    let mut rest = text;
-    for i in 0..count {
-        let (row, after) = read_row(rest, line + i as u32, limits, judge)?;
-        rows[i] = row;
-        rest = after;
-    }
-    Ok((rows, rest))
-}
-
-// The section whose names line stands at a line: the numbers of its `count` lines, and the text after them.
-pub(crate) fn read_section<'a>(
-    text: &'a [u8],
-    line: u32,
-    names: &[u8],
-    limits: &[Limit],
-    judge: Judge,
-    count: usize,
-) -> Result<([[i64; 8]; 8], &'a [u8]), CaseFault>
-    requires few { count ≤ 8 }
-    requires early { line ≤ 99 }
-    ensures { with_rest result ≡ rows_stored (section_of names.now (take row_width limits.now) judge count line text.now) }
-{
-    let rest = names_line(text, line, names)?;
-    read_rows(rest, line + 1, limits, judge, count)
 }

@@ -1,12 +1,11 @@
 // The first section of a case text: its sizes.
-ghost use Rattle.std.specs.Prelude.{◌≡◌, pos, ◌≤ℤ◌, IfOk, unsigned_abs};
-ghost use Rattle.text.specs.Lines.{with_rest};
-ghost use Rattle.case.specs.Forms.{SizesKept};
-ghost use Rattle.case.specs.Texts.{sizes_section};
+ghost use Rattle.std.specs.Prelude.{◌≡◌, ◌≤◌, pos, ◌≤ℤ◌};
+ghost use Rattle.control.specs.Limits.{most_states, most_inputs};
+ghost use Rattle.case.specs.Limits.{most_pushes, most_extras, divisor_limit};
 
 use crate::faults::CaseFault;
 use crate::limits::SIZES;
-use crate::sections::{Judge, read_section};
+use crate::sections::Section;
 use text::lines::sized;
 
 // The numbers of states, inputs, pushes and extra faces, and the divisor.
@@ -17,33 +16,37 @@ pub struct Sizes {
     pub pushes: usize,
     pub extras: usize,
     pub divisor: i64,
+    ghost sizes: { (1 ≤ states) × (states ≤ most_states) × (1 ≤ inputs) × (inputs ≤ most_inputs) },
+    ghost counts: { (pushes ≤ most_pushes) × (extras ≤ most_extras) },
+    ghost divides: { (pos 1 ≤ℤ divisor) × (divisor ≤ℤ pos divisor_limit) },
 }
 
-// A number of states, inputs, pushes or extra faces.
-fn size(number: i64) -> usize
-    requires { (pos 0 ≤ℤ number) × (number ≤ℤ pos 8) }
-    ensures { result ≡ unsigned_abs number }
-{
-    number.unsigned_abs() as usize
-}
+impl Sizes {
+    ghost use Rattle.case.specs.Stored.{sizes_told};
+    ghost use Rattle.case.specs.Texts.{sizes_section};
 
-// Reads the first section of a case text, and gives the sizes and the text after it.
-pub(crate) fn read_sizes(text: &[u8]) -> Result<(Sizes, &[u8]), CaseFault>
-    ensures value { with_rest result ≡ sizes_section text.now }
-    ensures kept { IfOk result (λ p. SizesKept p.0) }
-{
-    sized(text)?;
-    let names = b"states inputs disturbances extra divisor";
-    let (rows, rest) = read_section(text, 1, names, &SIZES, Judge::Nothing, 1)?;
-    let row = rows[0];
-    Ok((
-        Sizes {
-            states: size(row[0]),
-            inputs: size(row[1]),
-            pushes: size(row[2]),
-            extras: size(row[3]),
-            divisor: row[4],
-        },
-        rest,
-    ))
+    // Reads the first section of a case text, and gives the sizes and the text after it.
+    pub(crate) fn read(text: &[u8]) -> Result<(Sizes, &[u8]), CaseFault>
+        ensures { sizes_told result ≡ sizes_section text.now }
+    {
+        sized(text)?;
+        let section = Section {
+            line: 1,
+            names: b"states inputs disturbances extra divisor",
+            limits: &SIZES,
+            count: 1,
+        };
+        let (rows, rest) = section.read(text, |_, _| Ok(()))?;
+        let row = rows[0];
+        Ok((
+            Sizes {
+                states: row[0].unsigned_abs() as usize,
+                inputs: row[1].unsigned_abs() as usize,
+                pushes: row[2].unsigned_abs() as usize,
+                extras: row[3].unsigned_abs() as usize,
+                divisor: row[4],
+            },
+            rest,
+        ))
+    }
 }

@@ -29,7 +29,8 @@ pub struct ExtraFace {
     pub right: i64,
 }
 
-// A case that was read; the places of lacking states, inputs, pushes and extra faces hold 0. `proofs` is the part of the
+// A case that was read; the places of lacking states, inputs, pushes and extra faces hold 0. Fixed places with their counts
+// beside: a caller lends them, and the library allocates nothing. `proofs` is the part of the
 // text with the proof lines, and `line` the number of its first line.
 #[derive(Clone, Copy)]
 pub struct Case<'t> {

@@ -1,12 +1,9 @@
 -- The columns of a proof: what their sums must be, and the face's coefficients in its row of the system.
 use Rattle.std.proofs.Common.{◌≡◌, ℕ, ◌+◌, ◌-◌, ◌<◌, ◌≤◌, List, ◌++◌, length, get_or, ℤ, pos, ◌*ℤ◌, ap, ◌∙◌, arith}
 use lib.IntN.{*ℤ-zero}
-use Rattle.std.proofs.lemmas.List.{get_or_append_left, get_or-append_right, get_or-map, get_or-replicate, length-append, length-map, length-replicate}
+use Rattle.std.proofs.lemmas.List.{get_or_append_left, get_or-append_right, get_or-map, get_or-replicate, length-append, length-replicate}
 use Rattle.case.specs.System.{none}
 use Rattle.certificate.specs.Certificates.{scaled}
-
-pub wanted_long : (width : ℕ) (scale : ℤ) (face : List ℤ) → length (scaled scale (none width ++ face)) ≡ width + length face
-wanted_long width scale face = length-map (none width ++ face) (λ z. scale *ℤ z) ∙ omega (arith, length-append (none width) face, length-replicate width (pos 0))
 
 -- column j, counted from 0, before the last columns and in them
 pub wanted_before : (width : ℕ) (scale : ℤ) (face : List ℤ) (j : ℕ) → j < width → get_or (scaled scale (none width ++ face)) j (pos 0) ≡ pos 0

@@ -1,5 +1,5 @@
 -- The equations of a face, from its row of the system: the face over the state, in the first columns.
-use Rattle.std.proofs.Common.{◌≡◌, ℕ, ◌+◌, ◌-◌, ◌≤◌, Bool, true, false, cond, not, List, ◌++◌, length, take, ℤ, Some, None, Ok, Err, Option, Result, sym, refl, ap, ◌∙◌, subst, arith}
+use Rattle.std.proofs.Common.{◌≡◌, ℕ, ◌+◌, ◌-◌, ◌≤◌, Bool, true, false, cond, not, List, ◌++◌, length, take, ℤ, Some, None, Ok, Err, Option, sym, refl, ap, ◌∙◌, subst, arith}
 use Rattle.std.specs.List.{AllByRecursion}
 use Rattle.std.proofs.ByRecursion.{All-get_or}
 use Rattle.std.proofs.lemmas.List.{append_assoc, take_at}
@@ -11,17 +11,19 @@ use Rattle.case.specs.declared.values.Case.{Case}
 use Rattle.case.specs.Faces.{faces}
 use Rattle.case.specs.System.{column_count, none, over_states}
 use Rattle.case.specs.Values.{CaseValues, state_count, push_count, values_of}
-use Rattle.system.specs.declared.fault.SystemFault.{SystemFault}
+use Rattle.case.proofs.Faces.{faces_count}
+use Rattle.case.proofs.Stored.{states_are, pushes_are, extras_are}
 use Rattle.system.specs.Answers.{system_of, system_row_of}
+use Rattle.system.specs.Filled.{filled}
 use Rattle.system.proofs.Bridged.{faces_wide}
-use Rattle.system.proofs.Counts.{case_columns, faces_count, system_count}
+use Rattle.system.proofs.Counts.{case_columns, system_count}
 use Rattle.system.proofs.Groups.{face_at}
 use Rattle.system.proofs.Rows.{all_append_parts}
-use Rattle.system.proofs.Stored.{states_are, pushes_are, extras_are, case_wide}
+use Rattle.system.proofs.Stored.{case_wide}
 use Rattle.certificate.specs.declared.fault.ProofFault.TheVariants.{Unequal, Excess}
 use Rattle.certificate.specs.Certificates.{scaled, column_sums, right_sum, face_over_next}
 use Rattle.certificate.specs.Tests.{first_unequal, low_enough, right_low, equations_by, equations_of, face_of}
-use Rattle.certificate.proofs.Found.{Ready, system_small, GivenRow, given_right, given_coefficients}
+use Rattle.certificate.proofs.Found.{Ready, system_small}
 use Rattle.certificate.proofs.Tested.{decides_present}
 use Rattle.certificate.proofs.Turns.{column_sums_long}
 
@@ -59,10 +61,13 @@ module _ {c : Case} {m : Meaning} {region face : ℕ} (t : FaceReady c m region 
       let k = values_of c in
       (all_append_parts (Within coefficient_limit) (face_of k face).coefficients (none (k.inputs + push_count k + state_count k)) face_limits.small).0
 
-  -- what is given for the face's row
-  module _ {list : List ℤ} {result : Result ℤ SystemFault} {right : ℤ} {coefficients : List ℤ} (given : GivenRow c m region face list result right coefficients) where
+  -- the row of the face as it was filled in
+  module _ {right : ℤ} {coefficients : List ℤ} (row : filled coefficients right ≡ system_row_of (values_of c) m region face) where
+    face_is : filled coefficients right ≡ over_states (values_of c) (face_of (values_of c) face)
+    face_is = row ∙ sym face_row
+
     pub face_right : right ≡ (face_of (values_of c) face).right
-    face_right = given_right t.ready face_low face_high given ∙ ap (λ r. r.right) (sym face_row)
+    face_right = ap (λ r. r.right) face_is
 
     pub right_small : Within right_limit right
     right_small = subst (Within right_limit) (sym face_right) face_limits.right_small
@@ -73,7 +78,7 @@ module _ {c : Case} {m : Meaning} {region face : ℕ} (t : FaceReady c m region 
         let f = (face_of k face).coefficients in
         let zeros = none (k.inputs + push_count k + state_count k) in
         let e : length f ≡ c.states - 0 = omega (arith, face_long) in
-        ap (λ l. take (c.states - 0) (l ++ rest)) (given_coefficients t.ready face_low face_high given ∙ ap (λ r. r.coefficients) (sym face_row))
+        ap (λ r. take (c.states - 0) (r.coefficients ++ rest)) face_is
         ∙ ap (take (c.states - 0)) (append_assoc f zeros rest) ∙ take_at f (zeros ++ rest) (c.states - 0) e
 
   -- the sums as the code has them
@@ -85,14 +90,13 @@ module _ {c : Case} {m : Meaning} {region face : ℕ} (t : FaceReady c m region 
     sums_front rest = let e : length sums ≡ c.states + c.inputs + c.pushes + c.states - 0 = omega (arith, sums_long) in take_at sums rest (c.states + c.inputs + c.pushes + c.states - 0) e
 
     -- the first unequal column is that of the definition
-    pub first_is : (face' front : List ℤ) (scale scale' : ℤ) (first : Option ℕ) → front ≡ sums → face' ≡ (face_of (values_of c) face).coefficients → scale' ≡ scale → first ≡ first_unequal 1 front (scaled scale' (none (c.states + c.inputs + c.pushes) ++ face')) → first_unequal 1 (column_sums (column_count (values_of c)) ms (system_of (values_of c) m region)) (scaled scale (face_over_next (values_of c) (face_of (values_of c) face))) ≡ first
-    first_is face' front scale scale' first ef e ez is =
+    pub first_is : (face' front : List ℤ) (scale : ℤ) (first : Option ℕ) → front ≡ sums → face' ≡ (face_of (values_of c) face).coefficients → first ≡ first_unequal 1 front (scaled scale (none (c.states + c.inputs + c.pushes) ++ face')) → first_unequal 1 (column_sums (column_count (values_of c)) ms (system_of (values_of c) m region)) (scaled scale (face_over_next (values_of c) (face_of (values_of c) face))) ≡ first
+    first_is face' front scale first ef e is =
         let k = values_of c in
         let w : state_count k + k.inputs + push_count k ≡ c.states + c.inputs + c.pushes = omega (arith, states_are c, pushes_are c) in
         ap (λ l. first_unequal 1 l (scaled scale (face_over_next k (face_of k face)))) (sym es ∙ sym ef)
         ∙ ap (λ n. first_unequal 1 front (scaled scale (none n ++ (face_of k face).coefficients))) w
-        ∙ ap (λ l. first_unequal 1 front (scaled scale (none (c.states + c.inputs + c.pushes) ++ l))) (sym e)
-        ∙ ap (λ z. first_unequal 1 front (scaled z (none (c.states + c.inputs + c.pushes) ++ face'))) (sym ez) ∙ sym is
+        ∙ ap (λ l. first_unequal 1 front (scaled scale (none (c.states + c.inputs + c.pushes) ++ l))) (sym e) ∙ sym is
 
 -- what the test answers
 by_low : (low : Bool) → cond (not low) (Err Excess) (Ok tt) ≡ equations_by None low
@@ -104,8 +108,8 @@ module _ (k : CaseValues) (rows : List Row) (face : Row) (scale : ℤ) (ms : Lis
   answer_unequal j e = sym (ap (λ o. equations_by o (right_low rows face scale ms)) e)
 
   -- by the test of the right side, as the code has the numbers
-  pub answer_equal : (t : Bool) (sum scale' right : ℤ) → first_unequal 1 (column_sums (column_count k) ms rows) (scaled scale (face_over_next k face)) ≡ None → sum ≡ right_sum ms rows → scale' ≡ scale → right ≡ face.right → t ≡ not (low_enough sum scale' right) → cond t (Err Excess) (Ok tt) ≡ equations_of k rows face scale ms
-  answer_equal t sum scale' right e es ez er is =
+  pub answer_equal : (t : Bool) (sum right : ℤ) → first_unequal 1 (column_sums (column_count k) ms rows) (scaled scale (face_over_next k face)) ≡ None → sum ≡ right_sum ms rows → right ≡ face.right → t ≡ not (low_enough sum scale right) → cond t (Err Excess) (Ok tt) ≡ equations_of k rows face scale ms
+  answer_equal t sum right e es er is =
       let low : t ≡ not (right_low rows face scale ms) =
-      is ∙ ap (λ s. not (low_enough s scale' right)) es ∙ ap (λ z. not (low_enough (right_sum ms rows) z right)) ez ∙ ap (λ r. not (low_enough (right_sum ms rows) scale r)) er in
+      is ∙ ap (λ s. not (low_enough s scale right)) es ∙ ap (λ r. not (low_enough (right_sum ms rows) scale r)) er in
       ap (λ b. cond b (Err Excess) (Ok tt)) low ∙ by_low (right_low rows face scale ms) ∙ sym (ap (λ o. equations_by o (right_low rows face scale ms)) e)

@@ -16,11 +16,12 @@ use Rattle.case.specs.declared.values.Case.{Case}
 use Rattle.case.specs.Faces.{box_faces, extra_face, faces, Inside}
 use Rattle.case.specs.Next.{AllPermitted, AllBounded}
 use Rattle.case.specs.Values.{CaseValues, state_count, push_count, values_of}
+use Rattle.case.proofs.Stored.{RangeOk, states_are}
 use Rattle.system.specs.Bridge.{Step, Solves, Bridge}
 use Rattle.system.proofs.Bridged.{Wide, faces_wide, bridge}
 use Rattle.system.proofs.Limits.{EquationSmall, case_small}
 use Rattle.system.proofs.Rows.{all_append_parts}
-use Rattle.system.proofs.Stored.{RangeOk, case_wide, states_are}
+use Rattle.system.proofs.Stored.{case_wide}
 use Rattle.certificate.specs.Certificates.{region_system, Certified, Invariant}
 use Rattle.certificate.specs.Sound.{CertificatesSound}
 use Rattle.certificate.proofs.Farkas.{proved_face}

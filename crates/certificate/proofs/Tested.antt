@@ -1,9 +1,8 @@
 -- The test of a proof of one face decides whether its scale and multipliers stand.
-use Rattle.std.proofs.Common.{◌≡◌, ℕ, ◌+◌, ◌-◌, ◌<◌, ◌≤◌, Bool, true, false, cond, not, ◌&&◌, eqb, ltb, List, [], ◌∷◌, length, get_or, drop, ℤ, pos, negsuc, ◌*ℤ◌, ◌≤ℤ◌, Some, None, Ok, Err, Decides, Option, Result, sym, refl, ap, ◌∙◌, arith}
+use Rattle.std.proofs.Common.{◌≡◌, ℕ, ◌+◌, ◌-◌, ◌≤◌, Bool, true, false, cond, not, ◌&&◌, eqb, ltb, List, [], ◌∷◌, length, get_or, drop, ℤ, pos, negsuc, ◌*ℤ◌, ◌≤ℤ◌, Some, None, Ok, Err, Decides, Option, Result, sym, refl, ap, ◌∙◌, arith}
 use lib.Signed.{le_z, lt_z}
 use Rattle.std.specs.List.{AllByRecursion}
 use Rattle.std.proofs.ByRecursion.{All-weaker, Decides-by_and}
-use Rattle.std.proofs.lemmas.List.{at_drop_all, at_drop_more}
 use Rattle.std.proofs.lemmas.Int.{ints}
 use Rattle.std.proofs.lemmas.Bool.{false≢true}
 use Rattle.std.proofs.lemmas.Bool.Decides.{Decides-and, Decides-eqb, Decides-like, Decides-ltb}
@@ -69,19 +68,6 @@ none_unequal j (x ∷ xs) (y ∷ ys) = by_test (same x y) refl (none_unequal (j 
     by_test : (t : Bool) → same x y ≡ t → Same (first_unequal (j + 1) xs ys ≡ None) (xs ≡ ys) → Same (cond t (first_unequal (j + 1) xs ys) (Some j) ≡ None) (x ∷ xs ≡ y ∷ ys)
     by_test true e more = ((λ n. ap (λ z. z ∷ xs) ((decides_same x y).0 e) ∙ ap (λ zs. y ∷ zs) (more.0 n)), (λ q. more.1 (ap (drop 1) q)))
     by_test false e more = ((λ n. absurd (grind arith)), (λ q. absurd (false≢true (sym e ∙ (decides_same x y).1 (ap (λ zs. get_or zs 0 (pos 0)) q)))))
-
--- one turn of a loop over the numbers, and over the places
-pub limit_turn : (zs : List ℤ) (i : ℕ) (t : Bool) → i < length zs → in_limit (get_or zs i (pos 0)) ≡ t → all_in_limit (drop i zs) ≡ (t && all_in_limit (drop (i + 1) zs))
-limit_turn zs i t lt e = at_drop_more all_in_limit zs i (pos 0) lt ∙ ap (λ b. b && all_in_limit (drop (i + 1) zs)) e
-
-pub unequal_turn : (xs ys : List ℤ) (j : ℕ) (t : Bool) → j < length xs → j < length ys → same (get_or xs j (pos 0)) (get_or ys j (pos 0)) ≡ t → first_unequal (j + 1) (drop j xs) (drop j ys) ≡ cond t (first_unequal (j + 1 + 1) (drop (j + 1) xs) (drop (j + 1) ys)) (Some (j + 1))
-unequal_turn xs ys j t lx ly e =
-    at_drop_more (λ l. first_unequal (j + 1) l (drop j ys)) xs j (pos 0) lx
-    ∙ at_drop_more (first_unequal (j + 1) (get_or xs j (pos 0) ∷ drop (j + 1) xs)) ys j (pos 0) ly
-    ∙ ap (λ b. cond b (first_unequal (j + 1 + 1) (drop (j + 1) xs) (drop (j + 1) ys)) (Some (j + 1))) e
-
-pub unequal_end : (xs ys : List ℤ) (j : ℕ) → length xs ≤ j → length ys ≤ j → first_unequal (j + 1) (drop j xs) (drop j ys) ≡ None
-unequal_end xs ys j lx ly = at_drop_all (λ l. first_unequal (j + 1) l (drop j ys)) xs j lx ∙ at_drop_all (first_unequal (j + 1) []) ys j ly
 
 -- the answers that pass
 equations_pass : (o : Option ℕ) (low : Bool) → Same (equations_by o low ≡ Ok tt) ((o ≡ None) × (low ≡ true))

@@ -1,5 +1,5 @@
 -- The turns of the loop that adds up the rows of a proof.
-use Rattle.std.proofs.Common.{◌≡◌, ℕ, ◌+◌, ◌-◌, ◌*◌, ◌<◌, ◌≤◌, true, List, [], ◌∷◌, length, get_or, drop, ℤ, pos, ◌+ℤ◌, ◌*ℤ◌, is_ok, Result, sym, ap, ◌∙◌, subst, arith, lit<, w64, to_z, of_z}
+use Rattle.std.proofs.Common.{◌≡◌, ℕ, ◌+◌, ◌*◌, ◌<◌, ◌≤◌, true, List, [], ◌∷◌, length, get_or, drop, ℤ, pos, ◌+ℤ◌, ◌*ℤ◌, sym, ap, ◌∙◌, subst, arith, lit<, w64, to_z, of_z}
 use lib.IntN.{zero-*ℤ}
 use Rattle.std.specs.List.{AllByRecursion}
 use Rattle.std.proofs.ByRecursion.{All-get_or}
@@ -8,17 +8,15 @@ use Rattle.std.proofs.lemmas.Int.{ints, to_z-of_z}
 use Rattle.arith.specs.Bounds.{Within}
 use Rattle.arith.proofs.Bounds.{all_wider, product_within, sfits_within, within_wider, zeros_within}
 use Rattle.control.specs.Answers.{no_row}
-use Rattle.control.specs.Limits.{coefficient_limit, right_limit, Limits, RowLimits}
-use Rattle.control.specs.Meaning.{Row, Meaning}
-use Rattle.case.specs.declared.values.Case.{Case}
-use Rattle.case.specs.System.{column_count, none}
-use Rattle.case.specs.Values.{values_of}
-use Rattle.system.specs.declared.fault.SystemFault.{SystemFault}
-use Rattle.system.specs.Answers.{most_system_rows, system_of, system_row_answer}
+use Rattle.control.specs.Limits.{coefficient_limit, right_limit, RowLimits}
+use Rattle.control.specs.Meaning.{Row}
+use Rattle.case.specs.System.{none}
+use Rattle.system.specs.Answers.{most_system_rows}
+use Rattle.system.specs.Filled.{filled}
 use Rattle.certificate.specs.Certificates.{scaled, added, column_sums, right_sum}
 use Rattle.certificate.specs.Tests.{multiplier_limit, all_in_limit}
 use Rattle.certificate.proofs.Adding.{added_assoc, added_comm, added_none, scaled_zero, length_added, added_within, scaled_within, Computed, computed}
-use Rattle.certificate.proofs.Found.{limited_within, Ready, system_few, system_small, row_ok, GivenRow, given_right, given_coefficients}
+use Rattle.certificate.proofs.Found.{limited_within}
 use Rattle.certificate.proofs.Tested.{Limited, decides_all_in_limit}
 
 -- the bounds of multiplier × coefficient and of multiplier × right side
@@ -103,20 +101,20 @@ summed_all width ms rows i sums sum le all = (
 )
 
 -- one turn: what holds at multiplier i
-pub record Turn (c : Case) (m : Meaning) (region : ℕ) (ms : List ℤ) (i : ℕ) (sums : List ℤ) (sum : ℤ) : Type 0 where
-  pub ready : Ready c m region
-  pub limits : Limits m
-  pub long : length ms ≡ length (system_of (values_of c) m region)
+pub record Turn (width : ℕ) (ms : List ℤ) (rows : List Row) (i : ℕ) (sums : List ℤ) (sum : ℤ) : Type 0 where
+  pub small : AllByRecursion (RowLimits width) rows
+  pub few : length rows ≤ most_system_rows
+  pub long : length ms ≡ length rows
   pub all : all_in_limit ms ≡ true
   pub lt : i < length ms
-  pub before : Summed (column_count (values_of c)) ms (system_of (values_of c) m region) i sums sum
+  pub before : Summed width ms rows i sums sum
 
-module _ {c : Case} {m : Meaning} {region : ℕ} {ms : List ℤ} {i : ℕ} {sums : List ℤ} {sum : ℤ} (t : Turn c m region ms i sums sum) where
+module _ {width : ℕ} {ms : List ℤ} {rows : List Row} {i : ℕ} {sums : List ℤ} {sum : ℤ} (t : Turn width ms rows i sums sum) where
   multiplier_small : Within multiplier_limit (get_or ms i (pos 0))
   multiplier_small = limited_within (get_or ms i (pos 0)) (All-get_or Limited ms i (pos 0) t.lt ((decides_all_in_limit ms).0 t.all))
 
-  row_small : RowLimits (column_count (values_of c)) (get_or (system_of (values_of c) m region) i no_row)
-  row_small = All-get_or (RowLimits (column_count (values_of c))) (system_of (values_of c) m region) i no_row (omega arith) (system_small c m region t.ready t.limits)
+  row_small : RowLimits width (get_or rows i no_row)
+  row_small = All-get_or (RowLimits width) rows i no_row (omega arith) t.small
 
   pub multiplier_read : to_z w64 (of_z w64 (get_or ms i (pos 0))) ≡ get_or ms i (pos 0)
   multiplier_read = to_z-of_z w64 (get_or ms i (pos 0)) (sfits_within multiplier_limit (get_or ms i (pos 0)) (lit< tt) multiplier_small)
@@ -125,45 +123,28 @@ module _ {c : Case} {m : Meaning} {region : ℕ} {ms : List ℤ} {i : ℕ} {sums
   multiplier_within = subst (Within multiplier_limit) (sym multiplier_read) multiplier_small
 
   pub sums_within : AllByRecursion (Within (most_system_rows * term_limit)) sums
-  sums_within = all_wider (i * term_limit) (most_system_rows * term_limit) (omega (arith, system_few c m region t.ready t.limits)) sums t.before.small
+  sums_within = all_wider (i * term_limit) (most_system_rows * term_limit) (omega (arith, t.few)) sums t.before.small
 
   -- a multiplier of 0
-  pub turn_skipped : of_z w64 (get_or ms i (pos 0)) ≡ 0 → Summed (column_count (values_of c)) ms (system_of (values_of c) m region) (i + 1) sums sum
-  turn_skipped e =
-      summed_skip (column_count (values_of c)) ms (system_of (values_of c) m region) i sums sum t.lt (omega arith) row_small multiplier_small t.before (sym multiplier_read ∙ ap (to_z w64) e)
+  pub turn_skipped : of_z w64 (get_or ms i (pos 0)) ≡ 0 → Summed width ms rows (i + 1) sums sum
+  turn_skipped e = summed_skip width ms rows i sums sum t.lt (omega arith) row_small multiplier_small t.before (sym multiplier_read ∙ ap (to_z w64) e)
 
-  pub turn_ok : (list : List ℤ) (result : Result ℤ SystemFault) → length list ≡ column_count (values_of c) → result ≡ system_row_answer (values_of c) m region (i + 1) list → is_ok result ≡ true
-  turn_ok list result wide e = row_ok c m region t.ready (i + 1) list result (omega arith) (omega arith) wide e
-
-  module _ {list : List ℤ} {result : Result ℤ SystemFault} {right : ℤ} {coefficients : List ℤ} (row : GivenRow c m region (i + 1) list result right coefficients) where
-    right_is : right ≡ (get_or (system_of (values_of c) m region) i no_row).right
-    right_is =
-        let e : i + 1 - 1 ≡ i = omega arith in
-        given_right t.ready (omega arith) (omega arith) row ∙ ap (λ j. (get_or (system_of (values_of c) m region) j no_row).right) e
-
-    coefficients_are : coefficients ≡ (get_or (system_of (values_of c) m region) i no_row).coefficients
-    coefficients_are =
-        let e : i + 1 - 1 ≡ i = omega arith in
-        given_coefficients t.ready (omega arith) (omega arith) row ∙ ap (λ j. (get_or (system_of (values_of c) m region) j no_row).coefficients) e
-
-    pub turn_row : RowLimits (column_count (values_of c)) (record { coefficients = coefficients; right = right })
-    turn_row = record {
-      wide = ap length coefficients_are ∙ row_small.wide;
-      small = subst (AllByRecursion (Within coefficient_limit)) (sym coefficients_are) row_small.small;
-      right_small = subst (Within right_limit) (sym right_is) row_small.right_small;
-    }
+  -- the row of place i as it was filled in
+  module _ {right : ℤ} {coefficients : List ℤ} (row : filled coefficients right ≡ get_or rows i no_row) where
+    pub turn_row : RowLimits width (filled coefficients right)
+    turn_row = subst (RowLimits width) (sym row) row_small
 
     pub turn_computed : Computed sum (get_or ms i (pos 0)) right
     turn_computed =
-        let few : i * right_term_limit ≤ most_system_rows * right_term_limit = omega (arith, system_few c m region t.ready t.limits) in
+        let few : i * right_term_limit ≤ most_system_rows * right_term_limit = omega (arith, t.few) in
         computed (most_system_rows * right_term_limit) multiplier_limit right_limit sum (get_or ms i (pos 0)) right (lit< tt) (lit< tt) (lit< tt)
         (within_wider (i * right_term_limit) (most_system_rows * right_term_limit) few sum t.before.right_small) multiplier_small turn_row.right_small
 
     -- the sums as the code computes them
-    pub turn_added : (sums' : List ℤ) (sum' : ℤ) → sums' ≡ added sums (scaled (to_z w64 (of_z w64 (get_or ms i (pos 0)))) coefficients) → sum' ≡ to_z w64 (of_z w64 (sum +ℤ to_z w64 (of_z w64 (to_z w64 (of_z w64 (get_or ms i (pos 0))) *ℤ to_z w64 (of_z w64 right))))) → Summed (column_count (values_of c)) ms (system_of (values_of c) m region) (i + 1) sums' sum'
+    pub turn_added : (sums' : List ℤ) (sum' : ℤ) → sums' ≡ added sums (scaled (to_z w64 (of_z w64 (get_or ms i (pos 0)))) coefficients) → sum' ≡ to_z w64 (of_z w64 (sum +ℤ to_z w64 (of_z w64 (to_z w64 (of_z w64 (get_or ms i (pos 0))) *ℤ to_z w64 (of_z w64 right))))) → Summed width ms rows (i + 1) sums' sum'
     turn_added sums' sum' es e =
-        let rows = system_of (values_of c) m region in
-        summed_same (column_count (values_of c)) ms rows (i + 1) _ sums' _ sum'
-        (es ∙ ap (λ z. added sums (scaled z coefficients)) multiplier_read ∙ ap (λ l. added sums (scaled (get_or ms i (pos 0)) l)) coefficients_are)
-        (e ∙ turn_computed.sum ∙ ap (λ z. sum +ℤ get_or ms i (pos 0) *ℤ z) right_is)
-        (summed_more (column_count (values_of c)) ms rows i sums sum t.lt (omega arith) row_small multiplier_small t.before)
+        let m = get_or ms i (pos 0) in
+        summed_same width ms rows (i + 1) _ sums' _ sum'
+        (es ∙ ap (λ z. added sums (scaled z coefficients)) multiplier_read ∙ ap (λ r. added sums (scaled m r.coefficients)) row)
+        (e ∙ turn_computed.sum ∙ ap (λ r. sum +ℤ m *ℤ r.right) row)
+        (summed_more width ms rows i sums sum t.lt (omega arith) row_small multiplier_small t.before)

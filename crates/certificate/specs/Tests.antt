@@ -1,6 +1,6 @@
 -- The test of a proof of one face.
 use Rattle.std.specs.Prelude.{◌≡◌, ℕ, ◌+◌, ◌-◌, ◌≤◌, Bool, true, false, cond, ◌&&◌, List, [], ◌∷◌, length, ℤ, pos, negsuc, ◌*ℤ◌, ◌≤ℤ◌, Some, None, Ok, Err, Option, Result, ◌==◌, int_le, slice_index_or}
-use Rattle.std.specs.List.{AllByRecursion}
+use Rattle.std.specs.List.{AllByRecursion, list_all}
 use Rattle.control.specs.Answers.{present, no_row}
 use Rattle.control.specs.Meaning.{Row, Meaning}
 use Rattle.case.specs.Faces.{faces}
@@ -19,8 +19,7 @@ abbrev pub in_limit : ℤ → Bool
 in_limit z = int_le (pos 0) z && int_le z (pos multiplier_limit)
 
 abbrev pub all_in_limit : List ℤ → Bool
-all_in_limit [] = true
-all_in_limit (z ∷ zs) = in_limit z && all_in_limit zs
+all_in_limit = list_all in_limit
 
 abbrev pub same : ℤ → ℤ → Bool
 same a b = int_le a b && int_le b a

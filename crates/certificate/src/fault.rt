@@ -1,7 +1,8 @@
 // Why a proof of one face is refused.
 ghost use Rattle.std.specs.Prelude.{◌≡◌};
-ghost use Rattle.certificate.specs.Faults.{of_system};
+ghost use Rattle.certificate.specs.Faults.{of_system, proof_cause};
 
+use causes::Cause;
 use system::SystemFault;
 
 // Sizes that differ, a region or face that is not there, the number of multipliers, a number outside its limit, the first
@@ -24,6 +25,21 @@ impl From<SystemFault> for ProofFault {
             SystemFault::Sizes => ProofFault::Sizes,
             SystemFault::Missing => ProofFault::Missing,
             SystemFault::Length => ProofFault::Length,
+        }
+    }
+}
+
+impl From<ProofFault> for Cause {
+    ghost from_gives = { λ fault cause. cause ≡ proof_cause fault };
+
+    fn from(fault: ProofFault) -> Cause {
+        match fault {
+            ProofFault::Sizes => Cause::Sizes,
+            ProofFault::Missing => Cause::Missing,
+            ProofFault::Length => Cause::Length,
+            ProofFault::Range => Cause::Outside,
+            ProofFault::Unequal(_) => Cause::Unequal,
+            ProofFault::Excess => Cause::Excess,
         }
     }
 }

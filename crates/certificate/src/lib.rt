@@ -3,12 +3,14 @@
 
 ghost use Rattle.certificate.specs.Sound.{CertificatesSound};
 
+mod candidate;
 mod fault;
 mod proof;
 mod sums;
 
+pub use candidate::MULTIPLIER_LIMIT;
 pub use fault::ProofFault;
-pub use proof::{MULTIPLIER_LIMIT, test_proof};
+pub use proof::test_proof;
 
 // Holds the theorem that a certificate makes the set of its case invariant.
 pub fn certificates_hold() -> u8

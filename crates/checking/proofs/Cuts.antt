@@ -9,7 +9,7 @@ use Rattle.text.specs.declared.faults.TextFault.TheVariants.{Line}
 use Rattle.text.proofs.Forming.{cut_is}
 use Rattle.control.specs.Meaning.{Meaning}
 use Rattle.case.specs.Values.{CaseValues}
-use Rattle.checking.specs.Checking.{ProofLine, before_rest, text_lines, line_of, complete, lines_check, text_check}
+use Rattle.checking.specs.Checking.{ProofLine, before_rest, text_lines, line_of, lines_check, text_check}
 use Rattle.checking.specs.declared.faults.CheckFault.{CheckFault}
 use Rattle.checking.specs.declared.faults.CheckFault.TheVariants.{Text}
 
@@ -40,9 +40,6 @@ rest_shorter text bytes rest e =
 module _ (k : CaseValues) (m : Meaning) (ls : List ProofLine) (line : ℕ) where
   abbrev lines_from : List (List ℕ) × List ℕ → Result (Unit {0}) CheckFault
   lines_from p = lines_check k m ls line p.0 p.1
-
-  pub text_ends : text_check k m ls line [] ≡ complete k m ls
-  text_ends = refl
 
   pub text_unfinished : (b : ℕ) (bs : List ℕ) → None ≡ cut_at line_feed (b ∷ bs) → text_check k m ls line (b ∷ bs) ≡ Err (Text (Line line))
   text_unfinished b bs e = ap lines_from (lines_cut (b ∷ bs) ∙ ap (lines_by (b ∷ bs)) (sym e))

@@ -45,7 +45,7 @@ proved_ok : (line region face : ℕ) (r : Result (Unit {0}) ProofFault) (u : Uni
 proved_ok line region face (Ok t) u e = refl
 proved_ok line region face (Err d) u e = grind arith
 
-unnamed_ok : (before : List ProofLine) (line region face : ℕ) (u : Unit {0}) → unnamed before line region face ≡ Ok u → names before region face ≡ false
+unnamed_ok : (before : List ProofLine) (line region face : ℕ) (u : Unit {0}) → unnamed (names before) line region face ≡ Ok u → names before region face ≡ false
 unnamed_ok before line region face u e = by_test (names before region face) refl e
   where
     by_test : (t : Bool) → names before region face ≡ t → ◌≡◌ {A = Result (Unit {0}) CheckFault} (cond t (Err (Repeated line (pair region face))) (Ok tt)) (Ok u) → names before region face ≡ false
@@ -122,13 +122,13 @@ absent_more : (t : Bool) (o : Option ℕ) (f : ℕ) → cond t o (Some f) ≡ No
 absent_more true o f e = (refl, e)
 absent_more false o f e = grind arith
 
-absent_to : (ls : List ProofLine) (region : ℕ) (fs : List ℕ) → absent_face ls region fs ≡ None → AllByRecursion (λ f. names ls region f ≡ true) fs
+absent_to : (ls : List ProofLine) (region : ℕ) (fs : List ℕ) → absent_face (names ls) region fs ≡ None → AllByRecursion (λ f. names ls region f ≡ true) fs
 absent_to ls region [] e = tt
 absent_to ls region (f ∷ fs) e =
-    let p = absent_more (names ls region f) (absent_face ls region fs) f e in
+    let p = absent_more (names ls region f) (absent_face (names ls) region fs) f e in
     (p.0, absent_to ls region fs p.1)
 
-absent_from : (ls : List ProofLine) (region : ℕ) (fs : List ℕ) → AllByRecursion (λ f. names ls region f ≡ true) fs → absent_face ls region fs ≡ None
+absent_from : (ls : List ProofLine) (region : ℕ) (fs : List ℕ) → AllByRecursion (λ f. names ls region f ≡ true) fs → absent_face (names ls) region fs ≡ None
 absent_from ls region [] h = refl
 absent_from ls region (f ∷ fs) h = cond-true (names ls region f) _ _ h.0 ∙ absent_from ls region fs h.1
 
@@ -136,15 +136,15 @@ unless_ok : (region : ℕ) (o : Option ℕ) (r : Result (Unit {0}) CheckFault) �
 unless_ok region None r e = (refl, e)
 unless_ok region (Some f) r e = grind arith
 
-named_to : (ls : List ProofLine) (rs fs : List ℕ) → all_named ls rs fs ≡ Ok tt → AllByRecursion (λ r. AllByRecursion (λ f. names ls r f ≡ true) fs) rs
+named_to : (ls : List ProofLine) (rs fs : List ℕ) → all_named (names ls) rs fs ≡ Ok tt → AllByRecursion (λ r. AllByRecursion (λ f. names ls r f ≡ true) fs) rs
 named_to ls [] fs e = tt
 named_to ls (r ∷ rs) fs e =
-    let p = unless_ok r (absent_face ls r fs) (all_named ls rs fs) e in
+    let p = unless_ok r (absent_face (names ls) r fs) (all_named (names ls) rs fs) e in
     (absent_to ls r fs p.0, named_to ls rs fs p.1)
 
-named_from : (ls : List ProofLine) (rs fs : List ℕ) → AllByRecursion (λ r. AllByRecursion (λ f. names ls r f ≡ true) fs) rs → all_named ls rs fs ≡ Ok tt
+named_from : (ls : List ProofLine) (rs fs : List ℕ) → AllByRecursion (λ r. AllByRecursion (λ f. names ls r f ≡ true) fs) rs → all_named (names ls) rs fs ≡ Ok tt
 named_from ls [] fs h = refl
-named_from ls (r ∷ rs) fs h = ap (λ o. unless_absent r o (all_named ls rs fs)) (absent_from ls r fs h.0) ∙ named_from ls rs fs h.1
+named_from ls (r ∷ rs) fs h = ap (λ o. unless_absent r o (all_named (names ls) rs fs)) (absent_from ls r fs h.0) ∙ named_from ls rs fs h.1
 
 counting_to : (P : ℕ → Type 0) (a n : ℕ) → AllByRecursion P (range_with_len a n) → (i : ℕ) → a ≤ i → i < a + n → P i
 counting_to P a n h i low high =
@@ -298,7 +298,7 @@ module _ (k : CaseValues) (m : Meaning) where
   numbers_left line bytes region face = bind (number_fields k m region line bytes) (λ zs. equations_left line (proof_line region face zs))
 
   abbrev name_left : List ProofLine → ℕ → List ℕ → ℕ → ℕ → Result ProofLine CheckFault
-  name_left before line bytes region face = bind (unnamed before line region face) (λ _. numbers_left line bytes region face)
+  name_left before line bytes region face = bind (unnamed (names before) line region face) (λ _. numbers_left line bytes region face)
 
   abbrev face_left : List ProofLine → ℕ → List ℕ → ℕ → Result ProofLine CheckFault
   face_left before line bytes region = bind (face_field k line bytes) (name_left before line bytes region)
@@ -371,7 +371,7 @@ module _ (k : CaseValues) (m : Meaning) where
   line_to e before line bytes l q =
       let r = bind_ok (region_field m line bytes) (face_left before line bytes) l q in
       let f = bind_ok (face_field k line bytes) (name_left before line bytes r.0) l r.2 in
-      let u = bind_ok (unnamed before line r.0 f.0) (λ _. numbers_left line bytes r.0 f.0) l f.2 in
+      let u = bind_ok (unnamed (names before) line r.0 f.0) (λ _. numbers_left line bytes r.0 f.0) l f.2 in
       let n = bind_ok (number_fields k m r.0 line bytes) (λ zs. equations_left line (proof_line r.0 f.0 zs)) l u.2 in
       let x = proof_line r.0 f.0 n.0 in
       let s = bind_ok (equations_at k m line x) (λ _. Ok x) l n.2 in
@@ -387,7 +387,7 @@ module _ (k : CaseValues) (m : Meaning) where
       let t = fields_from line l (stands_kept l s) in
       bind_at (region_field m line bytes) (face_left before line bytes) l.region t.0
       ∙ bind_at (face_field k line bytes) (name_left before line bytes l.region) l.face t.1
-      ∙ bind_at (unnamed before line l.region l.face) (λ _. numbers_left line bytes l.region l.face) tt (cond-false (names before l.region l.face) _ _ free)
+      ∙ bind_at (unnamed (names before) line l.region l.face) (λ _. numbers_left line bytes l.region l.face) tt (cond-false (names before l.region l.face) _ _ free)
       ∙ bind_at (number_fields k m l.region line bytes) (λ zs. equations_left line (proof_line l.region l.face zs)) (l.scale ∷ l.multipliers) t.2
       ∙ bind_at (equations_at k m line l) (λ _. Ok l) tt (stands_from line l s)
 

@@ -5,16 +5,16 @@ use Rattle.text.specs.Lines.{bind, place, next_number, after_field}
 use Rattle.control.specs.Meaning.{Meaning}
 use Rattle.case.specs.Faces.{faces}
 use Rattle.case.specs.Values.{CaseValues}
-use Rattle.checking.specs.Checking.{ProofLine, pair, names, up_to, as_index, region_field, face_field, unnamed, number_fields, proof_line, equations_at, line_of}
+use Rattle.checking.specs.Checking.{ProofLine, pair, up_to, as_index, region_field, face_field, unnamed, number_fields, proof_line, equations_at, line_behind}
 use Rattle.checking.specs.Marks.{LineTold}
 use Rattle.checking.specs.declared.faults.CheckFault.{CheckFault}
 use Rattle.checking.specs.declared.faults.CheckFault.TheVariants.{Repeated}
 
 -- a fault that is told
-pub fault_told : (judged : Result ProofLine CheckFault) (ls : List ProofLine) (flags : List Bool) (r : Result (Unit {0}) CheckFault) (e : CheckFault) → r ≡ Err e → Err e ≡ judged → LineTold judged ls flags r
-fault_told judged ls flags r e told is = subst (LineTold judged ls flags) (sym told) (sym is)
+pub fault_told : (judged : Result ProofLine CheckFault) (old new : List (List Bool)) (r : Result (Unit {0}) CheckFault) (e : CheckFault) → r ≡ Err e → Err e ≡ judged → LineTold judged old new r
+fault_told judged old new r e told is = subst (LineTold judged old new) (sym told) (sym is)
 
-module _ (k : CaseValues) (m : Meaning) (ls : List ProofLine) (line : ℕ) (bytes : List ℕ) where
+module _ (k : CaseValues) (m : Meaning) (named : ℕ → ℕ → Bool) (line : ℕ) (bytes : List ℕ) where
   pub region_read : (n : ℕ) (o : Option (List ℕ)) (r : Result ℕ CheckFault) → r ≡ as_index (next_number (place line 1) (up_to n) o) → n ≡ length m.regions → o ≡ Some bytes → r ≡ region_field m line bytes
   region_read n o r h e f = h ∙ ap (λ i. as_index (next_number (place line 1) (up_to i) o)) e ∙ ap (λ t. as_index (next_number (place line 1) (up_to (length m.regions)) t)) f
 
@@ -29,15 +29,12 @@ module _ (k : CaseValues) (m : Meaning) (ls : List ProofLine) (line : ℕ) (byte
   past_pair region face = bind (number_fields k m region line bytes) (past_numbers region face)
 
   abbrev pub past_face : ℕ → ℕ → Result ProofLine CheckFault
-  past_face region face = bind (unnamed ls line region face) (λ _. past_pair region face)
+  past_face region face = bind (unnamed named line region face) (λ _. past_pair region face)
 
   abbrev pub past_region : ℕ → Result ProofLine CheckFault
   past_region region = bind (face_field k line bytes) (past_face region)
 
-  pub region_stops : (e : CheckFault) → Err e ≡ region_field m line bytes → Err e ≡ line_of k m ls line bytes
-  region_stops e h = ap (λ r. bind r past_region) h
-
-  pub region_goes : (region : ℕ) → Ok region ≡ region_field m line bytes → past_region region ≡ line_of k m ls line bytes
+  pub region_goes : (region : ℕ) → Ok region ≡ region_field m line bytes → past_region region ≡ line_behind k m named line bytes
   region_goes region h = ap (λ r. bind r past_region) h
 
   pub face_stops : (region : ℕ) (e : CheckFault) → Err e ≡ face_field k line bytes → Err e ≡ past_region region
@@ -46,11 +43,17 @@ module _ (k : CaseValues) (m : Meaning) (ls : List ProofLine) (line : ℕ) (byte
   pub face_goes : (region face : ℕ) → Ok face ≡ face_field k line bytes → past_face region face ≡ past_region region
   face_goes region face h = ap (λ r. bind r (past_face region)) h
 
-  pub pair_stops : (region face : ℕ) → names ls region face ≡ true → past_face region face ≡ Err (Repeated line (pair region face))
-  pair_stops region face h = ap (λ r. bind r (λ _. past_pair region face)) (cond-true (names ls region face) (Err (Repeated line (pair region face))) (Ok tt) h)
+  -- the region and the face as the code reads them, of so many
+  pub pair_read : (n count region face : ℕ) (o left : Option (List ℕ)) → n ≡ length m.regions → count ≡ length (faces k) → o ≡ Some bytes → left ≡ after_field o
+      → Ok region ≡ as_index (next_number (place line 1) (up_to n) o) → Ok face ≡ as_index (next_number (place line 2) (up_to count) left) → past_face region face ≡ line_behind k m named line bytes
+  pair_read n count region face o left en ec eo el r f =
+      face_goes region face (face_read count left (Ok face) f ec (el ∙ ap after_field eo)) ∙ region_goes region (region_read n o (Ok region) r en eo)
 
-  pub pair_goes : (region face : ℕ) → names ls region face ≡ false → past_face region face ≡ past_pair region face
-  pair_goes region face h = ap (λ r. bind r (λ _. past_pair region face)) (cond-false (names ls region face) (Err (Repeated line (pair region face))) (Ok tt) h)
+  pub pair_stops : (region face : ℕ) → named region face ≡ true → past_face region face ≡ Err (Repeated line (pair region face))
+  pair_stops region face h = ap (λ r. bind r (λ _. past_pair region face)) (cond-true (named region face) (Err (Repeated line (pair region face))) (Ok tt) h)
+
+  pub pair_goes : (region face : ℕ) → named region face ≡ false → past_face region face ≡ past_pair region face
+  pair_goes region face h = ap (λ r. bind r (λ _. past_pair region face)) (cond-false (named region face) (Err (Repeated line (pair region face))) (Ok tt) h)
 
   pub numbers_stop : (region face : ℕ) (e : CheckFault) → Err e ≡ number_fields k m region line bytes → Err e ≡ past_pair region face
   numbers_stop region face e h = ap (λ r. bind r (past_numbers region face)) h

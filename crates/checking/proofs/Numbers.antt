@@ -1,5 +1,5 @@
 -- The scale and the multipliers of a line.
-use Rattle.std.proofs.Common.{◌≡◌, ℕ, zero, suc, ◌+◌, ◌-◌, ◌≤◌, true, List, [], ◌∷◌, length, take, replicate, ℤ, pos, Some, Ok, Err, Option, Result, refl, ap, ◌∙◌, arith}
+use Rattle.std.proofs.Common.{◌≡◌, ℕ, zero, suc, ◌+◌, ◌-◌, ◌≤◌, true, List, [], ◌∷◌, length, take, replicate, ℤ, pos, Some, Ok, Err, Option, Result, sym, refl, ap, ◌∙◌, arith}
 use lib.Signed.{le_z}
 use Rattle.std.proofs.lemmas.List.{take_all, take-append-le, take-replicate, length-replicate}
 use Rattle.std.proofs.lemmas.Int.{ints}
@@ -11,7 +11,7 @@ use Rattle.text.specs.declared.number.Limit.{Limit}
 use Rattle.text.proofs.Forming.{numbers_fit, fit_length}
 use Rattle.control.specs.Meaning.{Meaning}
 use Rattle.case.specs.Values.{CaseValues}
-use Rattle.system.specs.Answers.{system_of}
+use Rattle.system.specs.Answers.{most_system_rows, system_of}
 use Rattle.certificate.specs.Tests.{in_limit, all_in_limit}
 use Rattle.checking.specs.Checking.{as_check, proof_limit, proof_limits, number_fields}
 use Rattle.checking.specs.declared.faults.CheckFault.TheVariants.{Text}
@@ -49,29 +49,33 @@ fit_limits (suc n) (z ∷ zs) h =
     and_from (in_limit z) (all_in_limit zs) (and_from (le_z (pos 0) z) (le_z z (pos 1000000)) a b) (fit_limits n zs h.2)
 
 -- the numbers of a line, as a long row gives them
-pub record Got (k : CaseValues) (m : Meaning) (region line : ℕ) (bytes : List ℕ) (row : List ℤ) : Type 0 where
+pub record Got (k : CaseValues) (m : Meaning) (region line count : ℕ) (bytes : List ℕ) (row : List ℤ) : Type 0 where
   pub numbers : List ℤ
   pub were : number_fields k m region line bytes ≡ Ok numbers
-  pub front : take (1 + length (system_of k m region) - 0) row ≡ numbers
-  pub long : length numbers ≡ 1 + length (system_of k m region)
+  pub front : take (1 + count - 0) row ≡ numbers
   pub limits : all_in_limit numbers ≡ true
 
-module _ (k : CaseValues) (m : Meaning) (region line : ℕ) (bytes : List ℕ) (limits : List Limit) (left : Option (List ℕ)) (same : limits ≡ proof_limits k m region) (behind : left ≡ after_field (after_field (Some bytes))) where
-  row_is : (w : ℕ) → wide_row_of w line 2 limits left ≡ bind (numbers_of line 3 (proof_limits k m region) (after_field (after_field (Some bytes)))) (λ zs. Ok (padded_to w zs))
-  row_is w = ap (λ ls. wide_row_of w line 2 ls left) same ∙ ap (wide_row_of w line 2 (proof_limits k m region)) behind
+-- where the region's system has so many rows
+module _ (k : CaseValues) (m : Meaning) (region line : ℕ) (bytes : List ℕ) (count : ℕ) (left : Option (List ℕ)) (rows : count ≡ length (system_of k m region)) (few : count ≤ most_system_rows) (behind : left ≡ after_field (after_field (Some bytes))) where
+  abbrev limits : List Limit
+  limits = take long_row_width (take (1 + count - 0) (replicate long_row_width proof_limit))
 
-  pub numbers_refused : (w : ℕ) (e : TextFault) → Err e ≡ wide_row_of w line 2 limits left → Err (Text e) ≡ number_fields k m region line bytes
-  numbers_refused w e h = row_refused w _ e (h ∙ row_is w)
+  row_is : wide_row_of long_row_width line 2 limits left ≡ bind (numbers_of line 3 (proof_limits k m region) (after_field (after_field (Some bytes)))) (λ zs. Ok (padded_to long_row_width zs))
+  row_is =
+      let same : limits ≡ proof_limits k m region = limits_are (1 + count) (omega arith) ∙ ap (λ n. replicate (1 + n) proof_limit) rows in
+      ap (λ ls. wide_row_of long_row_width line 2 ls left) same ∙ ap (wide_row_of long_row_width line 2 (proof_limits k m region)) behind
 
-  pub numbers_got : (w : ℕ) (row : List ℤ) → Ok row ≡ wide_row_of w line 2 limits left → Got k m region line bytes row
-  numbers_got w row h =
-      let t = row_read w _ row (h ∙ row_is w) in
+  pub numbers_refused : (e : TextFault) → Err e ≡ wide_row_of long_row_width line 2 limits left → Err (Text e) ≡ number_fields k m region line bytes
+  numbers_refused e h = row_refused long_row_width _ e (h ∙ row_is)
+
+  pub numbers_got : (row : List ℤ) → Ok row ≡ wide_row_of long_row_width line 2 limits left → Got k m region line count bytes row
+  numbers_got row h =
+      let t = row_read long_row_width _ row (h ∙ row_is) in
       let fit = numbers_fit line 3 (proof_limits k m region) (after_field (after_field (Some bytes))) t.0 t.1 in
-      let long : length t.0 ≡ 1 + length (system_of k m region) = fit_length (proof_limits k m region) t.0 fit ∙ length-replicate (1 + length (system_of k m region)) proof_limit in
+      let long : length t.0 ≡ 1 + count = fit_length (proof_limits k m region) t.0 fit ∙ length-replicate (1 + length (system_of k m region)) proof_limit ∙ ap (λ n. 1 + n) (sym rows) in
       record {
         numbers = t.0;
         were = ap as_check t.1;
-        front = front_is w (1 + length (system_of k m region)) t.0 row long t.2;
-        long = long;
+        front = front_is long_row_width (1 + count) t.0 row long t.2;
         limits = fit_limits (1 + length (system_of k m region)) t.0 fit;
       }

@@ -78,9 +78,9 @@ region_field m line bytes = as_index (next_number (place line 1) (up_to (length 
 abbrev pub face_field : CaseValues → ℕ → List ℕ → Result ℕ CheckFault
 face_field k line bytes = as_index (next_number (place line 2) (up_to (length (faces k))) (after_field (Some bytes)))
 
--- no line before names them
-abbrev pub unnamed : List ProofLine → ℕ → ℕ → ℕ → Result (Unit {0}) CheckFault
-unnamed before line region face = cond (names before region face) (Err (Repeated line (pair region face))) (Ok tt)
+-- the pair is not one of those that are named
+abbrev pub unnamed : (ℕ → ℕ → Bool) → ℕ → ℕ → ℕ → Result (Unit {0}) CheckFault
+unnamed named line region face = cond (named region face) (Err (Repeated line (pair region face))) (Ok tt)
 
 -- the scale and a multiplier for each row of the region's system, in the fields behind
 abbrev pub proof_limit : Limit
@@ -104,34 +104,38 @@ abbrev pub equations_at : CaseValues → Meaning → ℕ → ProofLine → Resul
 equations_at k m line l =
     proved_at line l.region l.face (equations_of k (system_of k m l.region) (face_of k l.face) l.scale l.multipliers)
 
--- the numbers of the line with these bytes, judged from left to right behind the lines before it
-abbrev pub line_of : CaseValues → Meaning → List ProofLine → ℕ → List ℕ → Result ProofLine CheckFault
-line_of k m before line bytes =
+-- the numbers of the line with these bytes, judged from left to right, where these pairs are named
+abbrev pub line_behind : CaseValues → Meaning → (ℕ → ℕ → Bool) → ℕ → List ℕ → Result ProofLine CheckFault
+line_behind k m named line bytes =
     bind (region_field m line bytes) (λ region.
     bind (face_field k line bytes) (λ face.
-    bind (unnamed before line region face) (λ _.
+    bind (unnamed named line region face) (λ _.
     bind (number_fields k m region line bytes) (λ zs.
     bind (equations_at k m line (proof_line region face zs)) (λ _.
     Ok (proof_line region face zs))))))
 
+-- judged behind the lines before it
+abbrev pub line_of : CaseValues → Meaning → List ProofLine → ℕ → List ℕ → Result ProofLine CheckFault
+line_of k m before line bytes = line_behind k m (names before) line bytes
+
 -- Pairs that no line names.
 
--- the first of these faces that no line names with the region
-abbrev pub absent_face : List ProofLine → ℕ → List ℕ → Option ℕ
-absent_face ls region [] = None
-absent_face ls region (f ∷ fs) = cond (names ls region f) (absent_face ls region fs) (Some f)
+-- the first of these faces that is not named with the region
+abbrev pub absent_face : (ℕ → ℕ → Bool) → ℕ → List ℕ → Option ℕ
+absent_face named region [] = None
+absent_face named region (f ∷ fs) = cond (named region f) (absent_face named region fs) (Some f)
 
 abbrev pub unless_absent : ℕ → Option ℕ → Result (Unit {0}) CheckFault → Result (Unit {0}) CheckFault
 unless_absent region None r = r
 unless_absent region (Some face) r = Err (Absent (pair region face))
 
 -- by region, then face
-abbrev pub all_named : List ProofLine → List ℕ → List ℕ → Result (Unit {0}) CheckFault
-all_named ls [] fs = Ok tt
-all_named ls (r ∷ rs) fs = unless_absent r (absent_face ls r fs) (all_named ls rs fs)
+abbrev pub all_named : (ℕ → ℕ → Bool) → List ℕ → List ℕ → Result (Unit {0}) CheckFault
+all_named named [] fs = Ok tt
+all_named named (r ∷ rs) fs = unless_absent r (absent_face named r fs) (all_named named rs fs)
 
 abbrev pub complete : CaseValues → Meaning → List ProofLine → Result (Unit {0}) CheckFault
-complete k m ls = all_named ls (range_with_len 1 (length m.regions)) (range_with_len 1 (length (faces k)))
+complete k m ls = all_named (names ls) (range_with_len 1 (length m.regions)) (range_with_len 1 (length (faces k)))
 
 -- The whole proof part.
 

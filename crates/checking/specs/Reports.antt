@@ -1,6 +1,9 @@
 -- What a fault of check tells: the layer, its place and its cause.
 use Rattle.std.specs.Prelude.{ℕ}
 use Rattle.case.specs.Reports.{case_report}
+use Rattle.causes.specs.Causes.{number_of}
+use Rattle.causes.specs.declared.Cause.{Cause}
+use Rattle.certificate.specs.Faults.{proof_cause}
 use Rattle.certificate.specs.declared.fault.ProofFault.{ProofFault}
 use Rattle.certificate.specs.declared.fault.ProofFault.TheVariants.{Sizes as OtherSizes, Missing as NoPair, Length, Range, Unequal, Excess}
 use Rattle.laws.specs.Reports.{law_report}
@@ -15,22 +18,25 @@ use Rattle.checking.specs.declared.faults.Pair.{Pair}
 abbrev pub pair_report : ℕ → ℕ → Pair → ℕ → Report
 pair_report line field p cause = report_at_pair Proof line field p.region p.face cause
 
--- numbers that do not prove a face: an unequal column, told as the field, or a right side too large; check gives no other
+-- the field told with numbers that do not prove a face: an unequal column; check gives only the last two faults
+abbrev pub proof_field : ProofFault → ℕ
+proof_field (Unequal column) = column
+proof_field OtherSizes = 0
+proof_field NoPair = 0
+proof_field Length = 0
+proof_field Range = 0
+proof_field Excess = 0
+
 abbrev pub proof_report : ℕ → Pair → ProofFault → Report
-proof_report line p OtherSizes = pair_report line 0 p 11
-proof_report line p NoPair = pair_report line 0 p 12
-proof_report line p Length = pair_report line 0 p 18
-proof_report line p Range = pair_report line 0 p 4
-proof_report line p (Unequal column) = pair_report line column p 15
-proof_report line p Excess = pair_report line 0 p 16
+proof_report line p fault = pair_report line (proof_field fault) p (number_of (proof_cause fault))
 
 -- a fault of the law text or of the case text tells what it told there
 abbrev pub check_report : CheckFault → Report
 check_report (Law fault) = law_report fault
 check_report (Case fault) = case_report fault
 check_report (Text fault) = text_report Proof fault
-check_report Sizes = report_at Proof 0 0 11
-check_report (Missing p) = report_at Proof p.line p.field 12
-check_report (Repeated line p) = pair_report line 0 p 13
-check_report (Absent p) = pair_report 0 0 p 14
+check_report Sizes = report_at Proof 0 0 (number_of Cause.Sizes)
+check_report (Missing p) = report_at Proof p.line p.field (number_of Cause.Missing)
+check_report (Repeated line p) = pair_report line 0 p (number_of Cause.Repeated)
+check_report (Absent p) = pair_report 0 0 p (number_of Cause.Absent)
 check_report (Unproved line p fault) = proof_report line p fault

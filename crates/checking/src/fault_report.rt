@@ -1,46 +1,55 @@
 // What a fault of check tells.
 ghost use Rattle.std.specs.Prelude.{◌≡◌};
-ghost use Rattle.checking.specs.Reports.{check_report, pair_report, proof_report};
+ghost use Rattle.causes.specs.Causes.{number_of};
+ghost use Rattle.checking.specs.Reports.{check_report, pair_report, proof_field};
 
 use crate::faults::{CheckFault, Pair};
+use causes::Cause;
 use certificate::ProofFault;
 use report::verdict::{Layer, Report};
 
 // A cause at a line and a field, of a pair of region and face.
-fn at_pair(line: u32, field: u32, pair: Pair, cause: u32) -> Report
-    ensures { result ≡ pair_report line field pair cause }
+fn at_pair(line: u32, field: u32, pair: Pair, cause: Cause) -> Report
+    ensures { result ≡ pair_report line field pair (number_of cause) }
 {
-    Report::at_pair(Layer::Proof, line, field, pair.region, pair.face, cause)
+    Report::at_pair(
+        Layer::Proof,
+        line,
+        field,
+        pair.region,
+        pair.face,
+        cause.into(),
+    )
 }
 
-// What numbers that do not prove a face tell.
-fn proof_report(line: u32, pair: Pair, fault: ProofFault) -> Report
-    ensures { result ≡ proof_report line pair fault }
+// The field told with numbers that do not prove a face: the unequal column, or 0 as in every report that tells no field.
+fn proof_field(fault: ProofFault) -> u32
+    ensures { result ≡ proof_field fault }
 {
     match fault {
-        ProofFault::Sizes => at_pair(line, 0, pair, 11),
-        ProofFault::Missing => at_pair(line, 0, pair, 12),
-        ProofFault::Length => at_pair(line, 0, pair, 18),
-        ProofFault::Range => at_pair(line, 0, pair, 4),
-        ProofFault::Unequal(column) => at_pair(line, column, pair, 15),
-        ProofFault::Excess => at_pair(line, 0, pair, 16),
+        ProofFault::Unequal(column) => column,
+        _ => 0,
     }
 }
 
-impl CheckFault {
-    // Layer, place and cause.
-    pub fn report(&self) -> Report
-        ensures { result ≡ check_report self.now }
-    {
-        match *self {
-            CheckFault::Law(fault) => fault.report(),
-            CheckFault::Case(fault) => fault.report(),
+// Layer, place and cause.
+impl From<CheckFault> for Report {
+    ghost from_gives = { λ fault report. report ≡ check_report fault };
+
+    fn from(fault: CheckFault) -> Report {
+        match fault {
+            CheckFault::Law(fault) => fault.into(),
+            CheckFault::Case(fault) => fault.into(),
             CheckFault::Text(fault) => Report::of_text(Layer::Proof, fault),
-            CheckFault::Sizes => Report::at(Layer::Proof, 0, 0, 11),
-            CheckFault::Missing(place) => Report::at(Layer::Proof, place.line, place.field, 12),
-            CheckFault::Repeated(line, pair) => at_pair(line, 0, pair, 13),
-            CheckFault::Absent(pair) => at_pair(0, 0, pair, 14),
-            CheckFault::Unproved(line, pair, fault) => proof_report(line, pair, fault),
+            CheckFault::Sizes => Report::at(Layer::Proof, 0, 0, Cause::Sizes.into()),
+            CheckFault::Missing(place) => {
+                Report::at(Layer::Proof, place.line, place.field, Cause::Missing.into())
+            }
+            CheckFault::Repeated(line, pair) => at_pair(line, 0, pair, Cause::Repeated),
+            CheckFault::Absent(pair) => at_pair(0, 0, pair, Cause::Absent),
+            CheckFault::Unproved(line, pair, fault) => {
+                at_pair(line, proof_field(fault), pair, fault.into())
+            }
         }
     }
 }

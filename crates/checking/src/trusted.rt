@@ -1,6 +1,6 @@
 // Cases that check has accepted.
 ghost use Rattle.std.specs.Prelude.{◌≡◌, IfOk, OnOk};
-ghost use Rattle.control.specs.Meaning.{meaning};
+ghost use Rattle.control.specs.Means.{meaning_of};
 ghost use Rattle.case.specs.Values.{values_of};
 ghost use Rattle.certificate.specs.Certificates.{Invariant};
 ghost use Rattle.checking.specs.Checking.{is_measured, check_of};
@@ -11,6 +11,7 @@ use crate::faults::CheckFault;
 use crate::lines::check_lines;
 use case::values::Case;
 use control::Controller;
+use system::ClosedLoop;
 use text::faults::TextFault;
 use text::lines::TEXT_LIMIT;
 
@@ -39,25 +40,30 @@ fn is_measured(case: &Case) -> bool
     case.line <= MOST_FIRST_LINE && case.proofs.len() <= TEXT_LIMIT
 }
 
+// Judges the proof part of a case with a controller of its sizes.
+fn judge<C: Controller>(case: &Case, controller: &C) -> Result<(), CheckFault>
+    ensures { let k = case.now in result ≡ check_of (values_of k) (meaning_of C.Controller controller.now) k.line k.proofs.now }
+{
+    let closed = ClosedLoop::new(case, controller).map_err(|_| CheckFault::Sizes)?;
+    if !is_measured(case) {
+        return Err(CheckFault::Text(TextFault::Size));
+    }
+    check_lines(&closed)
+}
+
 // Checks the proof lines of a case with a controller. A case is accepted exactly when its proof part is the text of a
 // certificate; then the set within its faces is invariant under the loop with this controller. A refusal tells the first
-// place that fails.
+// place that fails. Case and controller stand apart: the call is defined, and refuses, for any two.
+#[tactic(auto, using(crate::proofs::Exact::check_form))]
 pub fn check<'c, 't, C: Controller>(
     case: &'c Case<'t>,
     controller: &C,
 ) -> Result<Trusted<'c, 't>, CheckFault>
-    ensures value { let c = controller.now in let k = case.now in trusted_answer result ≡ check_of (values_of k) (meaning (C.states c) (C.inputs c) (C.partition c) (C.feedback c)) k.line k.proofs.now }
+    ensures value { let k = case.now in trusted_answer result ≡ check_of (values_of k) (meaning_of C.Controller controller.now) k.line k.proofs.now }
     ensures kept { IfOk result (λ t. t.case.now ≡ case.now) }
-    ensures form { let c = controller.now in let k = case.now in CheckForm (values_of k) (meaning (C.states c) (C.inputs c) (C.partition c) (C.feedback c)) k.line k.proofs.now }
-    ensures sound { let c = controller.now in OnOk result (Invariant (values_of case.now) (meaning (C.states c) (C.inputs c) (C.partition c) (C.feedback c))) }
+    ensures form { let k = case.now in CheckForm (values_of k) (meaning_of C.Controller controller.now) k.line k.proofs.now }
+    ensures sound { OnOk result (Invariant (values_of case.now) (meaning_of C.Controller controller.now)) }
 {
-    let (states, inputs) = controller.sizes();
-    if states != case.states || inputs != case.inputs {
-        return Err(CheckFault::Sizes);
-    }
-    if !is_measured(case) {
-        return Err(CheckFault::Text(TextFault::Size));
-    }
-    check_lines(case, controller)?;
+    judge(case, controller)?;
     Ok(Trusted { case })
 }

@@ -1,7 +1,8 @@
 -- What is known of every fixed law.
-use Rattle.std.proofs.Common.{take}
+use Rattle.std.proofs.Common.{length}
+use Rattle.control.specs.PerInput.{items}
 use Rattle.control.specs.declared.fixed.Fixed.{Fixed}
-use Rattle.control.specs.Lawful.FixedLaws.{FixedOk, ok_from}
+use Rattle.control.specs.Lawful.FixedLaws.{FixedOk, ok_held}
 
-pub ok_of : (c : Fixed) → FixedOk c.states c.inputs (take c.inputs c.commands)
-ok_of c = ok_from c.states c.inputs c.commands c.sizes c.two c.small
+pub ok_of : (c : Fixed) → FixedOk c.states.count (length (items c.commands)) (items c.commands)
+ok_of c = ok_held c.states c.commands c.small

@@ -1,11 +1,10 @@
 -- The answers of the questions, case by case, for every meaning, and the sizes that constructors take.
-use Rattle.std.proofs.Common.{◌≡◌, ℕ, ◌+◌, ◌-◌, ◌<◌, ◌≤◌, Bool, true, false, cond, ◌&&◌, eqb, ltb, leb, ◌⊎◌, List, length, ℤ, is_ok, Ok, Err, sym, ap, ◌∙◌, inl, inr, arith}
+use Rattle.std.proofs.Common.{◌≡◌, ℕ, ◌+◌, ◌-◌, ◌<◌, ◌≤◌, true, false, cond, ◌&&◌, eqb, ltb, leb, ◌⊎◌, List, length, ℤ, is_ok, Ok, Err, sym, ap, ◌∙◌, inl, inr, arith}
 use Rattle.std.proofs.lemmas.Bool.{and_left, and_right, and_from, lt-ltb, le-ltb, le-leb}
-use Rattle.arith.specs.Bounds.{all_within}
-use Rattle.control.specs.declared.fault.ControlFault.TheVariants.{Missing, Length, Range}
+use Rattle.control.specs.declared.fault.ControlFault.TheVariants.{Missing, Length}
 use Rattle.control.specs.Meaning.{Meaning}
-use Rattle.control.specs.Limits.{most_states, most_inputs, sizes_ok, state_limit}
-use Rattle.control.specs.Answers.{present, region_of, row_of, rows_answer, row_answer, row_fills, command_answer, command_fills}
+use Rattle.control.specs.Limits.{most_states, most_inputs, sizes_ok}
+use Rattle.control.specs.Answers.{present, region_of, row_of, rows_answer, row_answer, row_fills}
 
 -- the sizes that a constructor takes
 pub sizes_pass : (n m : ℕ) → 1 ≤ n → n ≤ most_states → 1 ≤ m → m ≤ most_inputs → sizes_ok n m ≡ true
@@ -40,14 +39,3 @@ row_found m k j list e f =
     ap (λ b. cond b (cond (eqb (length list) (m.states + m.inputs)) (Ok (row_of m k j).right) (Err Length)) (Err Missing)) e
     ∙ ap (λ b. cond b (Ok (row_of m k j).right) (Err Length)) f in
     (sym a, sym (ap (λ r. cond (is_ok r) (row_of m k j).coefficients list) a))
-
-command_by : (m : Meaning) (x list : List ℤ) (a b c : Bool) → eqb (length x) m.states ≡ a → eqb (length list) m.inputs ≡ b → all_within state_limit x ≡ c → command_answer m x list ≡ cond (a && b) (cond c (Ok tt) (Err Range)) (Err Length)
-command_by m x list a b c e f g =
-    ap (λ t. cond (t && eqb (length list) m.inputs) (cond (all_within state_limit x) (Ok tt) (Err Range)) (Err Length)) e
-    ∙ ap (λ t. cond (a && t) (cond (all_within state_limit x) (Ok tt) (Err Range)) (Err Length)) f
-    ∙ ap (λ t. cond (a && b) (cond t (Ok tt) (Err Range)) (Err Length)) g
-
-pub command_found : (m : Meaning) (x list : List ℤ) → eqb (length x) m.states ≡ true → eqb (length list) m.inputs ≡ true → all_within state_limit x ≡ true → (Ok tt ≡ command_answer m x list) × (m.command x ≡ command_fills m x list)
-command_found m x list e f g =
-    let a = command_by m x list true true true e f g in
-    (sym a, sym (ap (λ r. cond (is_ok r) (m.command x) list) a))

@@ -1,7 +1,8 @@
 -- What is known of every saturated law.
-use Rattle.std.proofs.Common.{take}
+use Rattle.std.proofs.Common.{length}
+use Rattle.control.specs.Held.{inputs_of}
 use Rattle.control.specs.declared.saturated.Saturated.{Saturated}
-use Rattle.control.specs.Lawful.SaturatedLaws.{SaturatedOk, ok_from}
+use Rattle.control.specs.Lawful.SaturatedLaws.{SaturatedOk, ok_held}
 
-pub ok_of : (s : Saturated) → SaturatedOk s.states s.count (take s.count s.inputs)
-ok_of s = ok_from s.states s.count s.inputs s.sizes s.two s.limits
+pub ok_of : (s : Saturated) → SaturatedOk s.states.count (length (inputs_of s.inputs)) (inputs_of s.inputs)
+ok_of s = ok_held s.states s.inputs

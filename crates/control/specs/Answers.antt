@@ -1,16 +1,21 @@
 -- What each question answers and leaves in the lent list, from the meaning; regions and rows count from 1.
 use Rattle.std.specs.Prelude.{ℕ, ◌+◌, ◌-◌, Bool, cond, ◌&&◌, List, [], length, ℤ, pos, is_ok, Ok, Err, Result, ◌==◌, nat_lt, slice_index_or}
 use Rattle.arith.specs.Bounds.{all_within}
+use Rattle.causes.specs.Causes.{number_of}
+use Rattle.causes.specs.declared.Cause.{Cause}
 use Rattle.control.specs.declared.fault.ControlFault.{ControlFault}
 use Rattle.control.specs.declared.fault.ControlFault.TheVariants.{Missing, Length, Range}
 use Rattle.control.specs.Meaning.{Row, Meaning}
 use Rattle.control.specs.Limits.{state_limit}
 
--- the number of each cause of refusal
+-- the cause of each refusal, and its number
+abbrev pub cause_of : ControlFault → Cause
+cause_of Missing = Cause.Missing
+cause_of Length = Cause.Length
+cause_of Range = Cause.Outside
+
 abbrev pub control_cause : ControlFault → ℕ
-control_cause Missing = 12
-control_cause Length = 18
-control_cause Range = 4
+control_cause fault = number_of (cause_of fault)
 
 abbrev pub present : {X : Type 0} → List X → ℕ → Bool
 present xs k = nat_lt 0 k && nat_lt (k - 1) (length xs)
@@ -37,6 +42,10 @@ row_answer m k j list =
 
 abbrev pub row_fills : Meaning → ℕ → ℕ → List ℤ → List ℤ
 row_fills m k j list = cond (is_ok (row_answer m k j list)) (row_of m k j).coefficients list
+
+-- whether x is a state in range, of n values
+abbrev pub state_answer : ℕ → List ℤ → Result (Unit {0}) ControlFault
+state_answer n x = cond (length x == n) (cond (all_within state_limit x) (Ok tt) (Err Range)) (Err Length)
 
 -- whether the command at x is given, and the command in the list
 abbrev pub command_answer : Meaning → List ℤ → List ℤ → Result (Unit {0}) ControlFault

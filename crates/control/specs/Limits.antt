@@ -16,8 +16,15 @@ most_regions = 16
 abbrev pub most_rows : ℕ
 most_rows = 12
 
+-- how many states and how many inputs a law may have
+abbrev pub states_ok : ℕ → Bool
+states_ok n = nat_le 1 n && nat_le n most_states
+
+abbrev pub inputs_count_ok : ℕ → Bool
+inputs_count_ok m = nat_le 1 m && nat_le m most_inputs
+
 abbrev pub sizes_ok : ℕ → ℕ → Bool
-sizes_ok n m = (nat_le 1 n && nat_le n most_states) && (nat_le 1 m && nat_le m most_inputs)
+sizes_ok n m = states_ok n && inputs_count_ok m
 
 -- magnitudes
 abbrev pub state_limit : ℕ

@@ -1,7 +1,7 @@
 -- The saturated law: for each input floor ((gains × x + offset) / divisor), clipped to low..high.
-use Rattle.std.specs.Prelude.{ℕ, zero, suc, ◌+◌, ◌*◌, ◌/◌, ◌%◌, ◌^◌, Bool, true, cond, ◌&&◌, List, [], ◌∷◌, map, length, take, ℤ, pos, negsuc, ◌+ℤ◌, ◌-ℤ◌, ◌*ℤ◌, neg_ℤ, Ok, Err, Result, ◌==◌, int_le}
+use Rattle.std.specs.Prelude.{ℕ, zero, suc, ◌+◌, ◌*◌, ◌/◌, ◌%◌, ◌^◌, Bool, cond, ◌&&◌, List, [], ◌∷◌, map, length, take, ℤ, pos, negsuc, ◌+ℤ◌, ◌-ℤ◌, ◌*ℤ◌, neg_ℤ, Ok, Err, Result, ◌==◌, int_le}
 use Rattle.std.specs.Int.{int_div_euclid, int_max, int_min}
-use Rattle.std.specs.List.{range_with_len}
+use Rattle.std.specs.List.{list_all, range_with_len}
 use Rattle.arith.specs.Bounds.{within, all_within}
 use Rattle.arith.specs.Products.{dot}
 use Rattle.control.specs.declared.fault.ControlFault.{ControlFault}
@@ -37,8 +37,7 @@ abbrev pub input_ok : Input → Bool
 input_ok i = (gains_ok i && divisor_ok i) && bounds_ok i
 
 abbrev pub inputs_ok : List Input → Bool
-inputs_ok [] = true
-inputs_ok (i ∷ is) = input_ok i && inputs_ok is
+inputs_ok is = list_all input_ok is
 
 -- the laws that can be made
 abbrev pub saturated_ok : ℕ → List Input → Bool

@@ -7,6 +7,7 @@ ghost use Rattle.control.specs.Answers.{rows_answer, row_answer, row_fills, comm
 
 use super::fault::ControlFault;
 
+// The clauses put the meaning together from the members: a definition over all of them cannot stand in their own trait.
 pub trait Controller {
     ghost states: { Self → ℕ };
 

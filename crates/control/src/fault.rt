@@ -1,6 +1,8 @@
 // Why a controller refuses a question.
 ghost use Rattle.std.specs.Prelude.{◌≡◌};
-ghost use Rattle.control.specs.Answers.{control_cause};
+ghost use Rattle.control.specs.Answers.{cause_of, control_cause};
+
+use causes::Cause;
 
 #[derive(Clone, Copy, PartialEq, Eq, Debug)]
 pub enum ControlFault {
@@ -9,15 +11,23 @@ pub enum ControlFault {
     Range,
 }
 
+impl From<ControlFault> for Cause {
+    ghost from_gives = { λ fault cause. cause ≡ cause_of fault };
+
+    fn from(fault: ControlFault) -> Cause {
+        match fault {
+            ControlFault::Missing => Cause::Missing,
+            ControlFault::Length => Cause::Length,
+            ControlFault::Range => Cause::Outside,
+        }
+    }
+}
+
 impl ControlFault {
-    // The number of the cause.
+    // The number of the cause, for a caller that tells numbers.
     pub fn cause(&self) -> u32
         ensures { result ≡ control_cause self.now }
     {
-        match self {
-            ControlFault::Missing => 12,
-            ControlFault::Length => 18,
-            ControlFault::Range => 4,
-        }
+        Cause::from(*self).into()
     }
 }

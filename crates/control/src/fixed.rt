@@ -1,15 +1,18 @@
 // The fixed law: one command for each input, at every state.
-ghost use Rattle.std.specs.Prelude.{◌≡◌, ◌<◌, ◌≤◌, true, length, take, is_some, IfSome, slice_index_or};
-ghost use Rattle.arith.specs.Bounds.{within, all_within};
-ghost use Rattle.control.specs.Limits.{most_states, most_inputs, setting_limit};
+ghost use Rattle.std.specs.Prelude.{◌≡◌, ◌<◌, true, length, is_some, IfSome, slice_index_or};
+ghost use Rattle.arith.specs.Bounds.{Within, within, all_within};
+ghost use Rattle.control.specs.Limits.{setting_limit};
 ghost use Rattle.control.specs.Lines.{no_line};
+ghost use Rattle.control.specs.PerInput.{items};
 ghost use Rattle.control.specs.Fixed.{fixed_ok, fixed_lines, fixed_partition};
-ghost use Rattle.control.specs.Lawful.FixedLaws.{ok_from, fixed_limits, fixed_cover};
+ghost use Rattle.control.specs.Lawful.FixedLaws.{ok_held, fixed_limits, fixed_cover};
 
 use super::controller::Controller;
 use super::fault::ControlFault;
-use super::limits::{MOST_STATES, SETTING_LIMIT, STATE_LIMIT};
-use super::lines::{Line, fill_row};
+use super::limits::{MOST_STATES, SETTING_LIMIT};
+use super::lines::{command_line, fill_row};
+use super::per_input::PerInput;
+use super::state::{State, States};
 use arith::all_within;
 
 // How many rows there are for each input.
@@ -17,74 +20,41 @@ const ROWS: usize = 2;
 
 #[derive(Drop)]
 pub struct Fixed {
-    states: usize,
-    inputs: usize,
-    commands: [i64; 2],
-    ghost sizes: { (1 ≤ states) × (states ≤ most_states) × (1 ≤ inputs) × (inputs ≤ most_inputs) },
-    ghost two: { length commands ≡ 2 },
-    ghost small: { all_within setting_limit commands ≡ true },
+    states: States,
+    commands: PerInput<i64>,
+    ghost small: { all_within setting_limit (items commands) ≡ true },
 }
 
 impl Fixed {
     // The law with these commands, if they keep the limits.
     pub fn new(states: usize, commands: &[i64]) -> Option<Fixed>
         ensures made { is_some result ≡ fixed_ok states commands.now }
-        ensures held { IfSome result (λ s. (s.states ≡ states) × (s.inputs ≡ length commands.now) × (take s.inputs s.commands ≡ commands.now)) }
+        ensures held { IfSome result (λ s. (s.states.count ≡ states) × (items s.commands ≡ commands.now)) }
     {
-        if states < 1 || states > MOST_STATES || !all_within(commands, SETTING_LIMIT) {
+        if !all_within(commands, SETTING_LIMIT) {
             return None;
         }
-        match commands {
-            [u] => Some(Fixed {
-                states,
-                inputs: 1,
-                commands: [*u, 0],
-            }),
-            [u, v] => Some(Fixed {
-                states,
-                inputs: 2,
-                commands: [*u, *v],
-            }),
-            _ => None,
-        }
-    }
-}
-
-// The first or the second row of an input with the command u.
-fn fixed_line(u: i64, k: usize) -> Line
-    requires small { within setting_limit u ≡ true }
-    requires place { k < length (fixed_lines u) }
-    ensures { result ≡ slice_index_or (fixed_lines u) k no_line }
-{
-    match k {
-        0 => Line {
-            sign: 0,
-            own: 1,
-            right: u,
-        },
-        _ => Line {
-            sign: 0,
-            own: -1,
-            right: -u,
-        },
+        let states = States::of(states)?;
+        let commands = PerInput::of(commands)?;
+        Some(Fixed { states, commands })
     }
 }
 
 impl Controller for Fixed {
-    ghost states = { λ s. s.states };
+    ghost states = { λ s. s.states.count };
 
-    ghost inputs = { λ s. s.inputs };
+    ghost inputs = { λ s. length (items s.commands) };
 
-    ghost partition = { λ s. fixed_partition s.states (take s.inputs s.commands) };
+    ghost partition = { λ s. fixed_partition s.states.count (items s.commands) };
 
-    ghost feedback = { λ s _. take s.inputs s.commands };
+    ghost feedback = { λ s _. items s.commands };
 
-    ghost limits = { λ c. fixed_limits c.states c.inputs (take c.inputs c.commands) (ok_from c.states c.inputs c.commands c.sizes c.two c.small) };
+    ghost limits = { λ c. fixed_limits _ _ _ (ok_held c.states c.commands c.small) };
 
-    ghost cover = { λ c. fixed_cover c.states c.inputs (take c.inputs c.commands) (ok_from c.states c.inputs c.commands c.sizes c.two c.small) };
+    ghost cover = { λ c. fixed_cover _ _ _ (ok_held c.states c.commands c.small) };
 
     fn sizes(&self) -> (usize, usize) {
-        (self.states, self.inputs)
+        (self.states.count, self.commands.count())
     }
 
     fn regions(&self) -> usize {
@@ -95,7 +65,7 @@ impl Controller for Fixed {
         if region != 1 {
             return Err(ControlFault::Missing);
         }
-        Ok(ROWS * self.inputs)
+        Ok(ROWS * self.commands.count())
     }
 
     fn row(
@@ -104,28 +74,29 @@ impl Controller for Fixed {
         row: usize,
         coefficients: &mut [i64],
     ) -> Result<i64, ControlFault> {
-        if region != 1 || row < 1 || row > ROWS * self.inputs {
+        if region != 1 || row < 1 || row > ROWS * self.commands.count() {
             return Err(ControlFault::Missing);
         }
-        if coefficients.len() != self.states + self.inputs {
+        if coefficients.len() != self.states.count + self.commands.count() {
             return Err(ControlFault::Length);
         }
         let j = (row - 1) / ROWS;
-        let line = fixed_line(self.commands[j], (row - 1) % ROWS);
-        fill_row(&[0, 0, 0, 0][0..self.states], j, line, coefficients);
+        let line = command_line(self.commands.at(j), (row - 1) % ROWS);
+        fill_row(
+            &[0; MOST_STATES][..self.states.count],
+            j,
+            line,
+            coefficients,
+        );
         Ok(line.right)
     }
 
     fn command(&self, x: &[i64], u: &mut [i64]) -> Result<(), ControlFault> {
-        if x.len() != self.states || u.len() != self.inputs {
+        if u.len() != self.commands.count() {
             return Err(ControlFault::Length);
         }
-        if !all_within(x, STATE_LIMIT) {
-            return Err(ControlFault::Range);
-        }
-        for i in 0..self.inputs {
-            u[i] = self.commands[i];
-        }
+        State::of(x, self.states)?;
+        self.commands.fill(u);
         Ok(())
     }
 }

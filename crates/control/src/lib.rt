@@ -8,7 +8,9 @@ mod fixed;
 mod input;
 pub mod limits;
 mod lines;
+mod per_input;
 mod saturated;
+mod state;
 
 pub use controller::Controller;
 pub use covered::covered_command;

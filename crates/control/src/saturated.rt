@@ -1,165 +1,157 @@
 // The saturated law: an affine command for each input, divided and clipped.
-ghost use Rattle.std.specs.Prelude.{◌≡◌, ◌+◌, ◌-◌, ◌<◌, ◌≤◌, true, [], ◌++◌, length, take, pos, is_some, IfSome, IfOk, slice_index_or};
+ghost use Rattle.std.specs.Prelude.{◌≡◌, ◌-◌, ◌<◌, [], ◌++◌, length, take, is_some, IfSome, IfOk, slice_index_or};
 ghost use Rattle.std.specs.List.{AllByRecursion};
-ghost use Rattle.arith.specs.Bounds.{Within, all_within};
-ghost use Rattle.control.specs.Limits.{most_states, most_inputs, state_limit};
+ghost use Rattle.arith.specs.Bounds.{Within};
 ghost use Rattle.control.specs.Cover.{Holds};
 ghost use Rattle.control.specs.Answers.{no_row};
 ghost use Rattle.control.specs.Lines.{row_from};
-ghost use Rattle.control.specs.declared.input.Digit.TheVariants.{Low};
-ghost use Rattle.control.specs.Saturated.{inputs_ok, saturated_ok, saturated_command, saturated_partition, region_rows, gains_at, digits_at, region_answer};
-ghost use Rattle.control.specs.Lawful.SaturatedLaws.{ok_from, saturated_limits, saturated_cover};
+ghost use Rattle.control.specs.PerInput.{items};
+ghost use Rattle.control.specs.Held.{inputs_of, partition_of, rows_of, command_of};
+ghost use Rattle.control.specs.Saturated.{inputs_ok, saturated_ok, saturated_command, index_of, digits_at, region_answer};
+ghost use Rattle.control.specs.Lawful.SaturatedLaws.{ok_held, saturated_limits, saturated_cover};
 
 use super::controller::Controller;
 use super::fault::ControlFault;
-use super::input::{Digit, Input, all_ok};
-use super::limits::{MOST_STATES, STATE_LIMIT};
+use super::input::{Digit, Input, Limited, RADIX};
 use super::lines::{Line, fill_row};
-use arith::all_within;
-
-// How many digits there are.
-const RADIX: usize = 3;
+use super::per_input::PerInput;
+use super::state::{State, States};
 
 #[derive(Drop)]
 pub struct Saturated {
-    states: usize,
-    count: usize,
-    inputs: [Input; 2],
-    ghost sizes: { (1 ≤ states) × (states ≤ most_states) × (1 ≤ count) × (count ≤ most_inputs) },
-    ghost two: { length inputs ≡ 2 },
-    ghost limits: { inputs_ok inputs ≡ true },
+    states: States,
+    inputs: PerInput<Limited>,
 }
 
-// A row of a region: the input that it speaks of, counted from 0, and its line.
+// A row of a region: the input that it speaks of, its place, counted from 0, and its line.
 #[derive(Clone, Copy)]
 struct Placed {
-    input: usize,
+    input: Limited,
+    place: usize,
     line: Line,
+}
+
+impl PerInput<Input> {
+    // The inputs, if each of them keeps its limits.
+    fn limited(&self) -> Option<PerInput<Limited>>
+        ensures made { is_some result ≡ inputs_ok (items self.now) }
+        ensures held { IfSome result (λ p. inputs_of p ≡ items self.now) }
+    {
+        match self {
+            PerInput::One(a) => Some(PerInput::One(a.limited()?)),
+            PerInput::Two(a, b) => Some(PerInput::Two(a.limited()?, b.limited()?)),
+        }
+    }
+}
+
+impl PerInput<Limited> {
+    // The digits at the state x.
+    fn digits_at(&self, x: &State) -> PerInput<Digit>
+        ensures { items result ≡ digits_at (length x.now.values.now) (inputs_of self.now) x.now.values.now }
+    {
+        self.map(|input| input.digit_at(x))
+    }
+
+    // The command at the state x.
+    fn command_at(&self, x: &State) -> PerInput<i64>
+        ensures { items result ≡ saturated_command (length x.now.values.now) (inputs_of self.now) x.now.values.now }
+    {
+        self.map(|input| input.part_at(x))
+    }
+}
+
+impl PerInput<Digit> {
+    // The index of the region with the digits, the first input's lowest.
+    fn index(&self) -> usize
+        ensures { result ≡ index_of (items self.now) }
+    {
+        match self {
+            PerInput::One(d) => *d as usize,
+            PerInput::Two(d, e) => *d as usize + RADIX * (*e as usize),
+        }
+    }
 }
 
 impl Saturated {
     // The law with these inputs, if they keep the limits.
     pub fn new(states: usize, inputs: &[Input]) -> Option<Saturated>
         ensures made { is_some result ≡ saturated_ok states inputs.now }
-        ensures held { IfSome result (λ s. (s.states ≡ states) × (s.count ≡ length inputs.now) × (take s.count s.inputs ≡ inputs.now)) }
+        ensures held { IfSome result (λ s. (s.states.count ≡ states) × (inputs_of s.inputs ≡ inputs.now)) }
     {
-        if states < 1 || states > MOST_STATES || !all_ok(inputs) {
-            return None;
-        }
-        match inputs {
-            [a] => Some(Saturated {
-                states,
-                count: 1,
-                inputs: [*a, *a],
-            }),
-            [a, b] => Some(Saturated {
-                states,
-                count: 2,
-                inputs: [*a, *b],
-            }),
-            _ => None,
-        }
+        let states = States::of(states)?;
+        let inputs = PerInput::of(inputs)?.limited()?;
+        Some(Saturated { states, inputs })
     }
 
     // How many regions the law has.
     fn region_count(&self) -> usize
-        ensures { let s = self.now in result ≡ length (saturated_partition s.states (take s.count s.inputs)) }
+        ensures { result ≡ length (partition_of self.now) }
     {
-        match self.count {
-            1 => RADIX,
-            _ => RADIX * RADIX,
+        match self.inputs {
+            PerInput::One(_) => RADIX,
+            PerInput::Two(_, _) => RADIX * RADIX,
         }
     }
 
     // How many rows the region with the index r has.
     fn row_count(&self, r: usize) -> usize
-        ensures { let s = self.now in result ≡ length (region_rows s.states (take s.count s.inputs) r) }
+        ensures { result ≡ length (rows_of self.now r) }
     {
-        let first = self.inputs[0].rows(Digit::numbered(r % RADIX));
-        match self.count {
-            1 => first,
-            _ => first + self.inputs[1].rows(Digit::numbered(r / RADIX % RADIX)),
+        let first = Digit::lowest(r);
+        let second = Digit::lowest(r / RADIX);
+        match &self.inputs {
+            PerInput::One(a) => a.rows(first),
+            PerInput::Two(a, b) => a.rows(first) + b.rows(second),
         }
     }
 
     // Row k, counted from 0, of the region with the index r.
     fn placed(&self, r: usize, k: usize) -> Placed
-        requires { k < length (region_rows self.now.states (take self.now.count self.now.inputs) r) }
-        ensures row { let s = self.now in slice_index_or (region_rows s.states (take s.count s.inputs) r) k no_row ≡ row_from (gains_at s.states (take s.count s.inputs) result.input) s.count result.input result.line }
-        ensures input { result.input < self.now.count }
+        requires { k < length (rows_of self.now r) }
+        ensures row { slice_index_or (rows_of self.now r) k no_row ≡ row_from (take self.now.states.count result.input.input.gains) (length (inputs_of self.now.inputs)) result.place result.line }
+        ensures place { result.place < length (inputs_of self.now.inputs) }
         ensures sign { Within 1 result.line.sign }
     {
-        let first = Digit::numbered(r % RADIX);
-        let rows = self.inputs[0].rows(first);
-        if k < rows {
-            return Placed {
-                input: 0,
-                line: self.inputs[0].line(first, k),
-            };
+        let first = Digit::lowest(r);
+        match &self.inputs {
+            PerInput::Two(a, b) if a.rows(first) <= k => Placed {
+                input: *b,
+                place: 1,
+                line: b.line(Digit::lowest(r / RADIX), k - a.rows(first)),
+            },
+            PerInput::One(a) | PerInput::Two(a, _) => Placed {
+                input: *a,
+                place: 0,
+                line: a.line(first, k),
+            },
         }
-        let second = Digit::numbered(r / RADIX % RADIX);
-        Placed {
-            input: 1,
-            line: self.inputs[1].line(second, k - rows),
-        }
-    }
-
-    // The part of the command for input j, counted from 0.
-    fn part_at(&self, j: usize, x: &[i64]) -> i64
-        requires input { j < self.now.count }
-        requires long { length x.now ≡ self.now.states }
-        requires small { all_within state_limit x.now ≡ true }
-        ensures { let s = self.now in result ≡ slice_index_or (saturated_command s.states (take s.count s.inputs) x.now) j (pos 0) }
-    {
-        let v = self.inputs[j].value(x);
-        self.inputs[j].part(v)
-    }
-
-    // The digit of input j, counted from 0.
-    fn digit_at(&self, j: usize, x: &[i64]) -> Digit
-        requires input { j < self.now.count }
-        requires long { length x.now ≡ self.now.states }
-        requires small { all_within state_limit x.now ≡ true }
-        ensures { let s = self.now in result ≡ slice_index_or (digits_at s.states (take s.count s.inputs) x.now) j Low }
-    {
-        let v = self.inputs[j].value(x);
-        self.inputs[j].digit(v)
     }
 
     // The number of the region at the state x; all its rows hold there for the command.
     pub fn region(&self, x: &[i64]) -> Result<usize, ControlFault>
-        ensures answer { let s = self.now in result ≡ region_answer s.states (take s.count s.inputs) x.now }
-        ensures holds { let s = self.now in IfOk result (λ k. AllByRecursion (Holds (x.now ++ saturated_command s.states (take s.count s.inputs) x.now)) (slice_index_or (saturated_partition s.states (take s.count s.inputs)) (k - 1) [])) }
+        ensures answer { result ≡ region_answer self.now.states.count (inputs_of self.now.inputs) x.now }
+        ensures holds { IfOk result (λ k. AllByRecursion (Holds (x.now ++ command_of self.now x.now)) (slice_index_or (partition_of self.now) (k - 1) [])) }
     {
-        if x.len() != self.states {
-            return Err(ControlFault::Length);
-        }
-        if !all_within(x, STATE_LIMIT) {
-            return Err(ControlFault::Range);
-        }
-        let first = self.digit_at(0, x).number();
-        match self.count {
-            1 => Ok(1 + first),
-            _ => Ok(1 + first + RADIX * self.digit_at(1, x).number()),
-        }
+        let x = State::of(x, self.states)?;
+        Ok(1 + self.inputs.digits_at(&x).index())
     }
 }
 
 impl Controller for Saturated {
-    ghost states = { λ s. s.states };
+    ghost states = { λ s. s.states.count };
 
-    ghost inputs = { λ s. s.count };
+    ghost inputs = { λ s. length (inputs_of s.inputs) };
 
-    ghost partition = { λ s. saturated_partition s.states (take s.count s.inputs) };
+    ghost partition = { partition_of };
 
-    ghost feedback = { λ s. saturated_command s.states (take s.count s.inputs) };
+    ghost feedback = { command_of };
 
-    ghost limits = { λ c. saturated_limits c.states c.count (take c.count c.inputs) (ok_from c.states c.count c.inputs c.sizes c.two c.limits) };
+    ghost limits = { λ c. saturated_limits _ _ _ (ok_held c.states c.inputs) };
 
-    ghost cover = { λ c. saturated_cover c.states c.count (take c.count c.inputs) (ok_from c.states c.count c.inputs c.sizes c.two c.limits) };
+    ghost cover = { λ c. saturated_cover _ _ _ (ok_held c.states c.inputs) };
 
     fn sizes(&self) -> (usize, usize) {
-        (self.states, self.count)
+        (self.states.count, self.inputs.count())
     }
 
     fn regions(&self) -> usize {
@@ -185,14 +177,13 @@ impl Controller for Saturated {
         if row < 1 || row > self.row_count(region - 1) {
             return Err(ControlFault::Missing);
         }
-        if coefficients.len() != self.states + self.count {
+        if coefficients.len() != self.states.count + self.inputs.count() {
             return Err(ControlFault::Length);
         }
         let placed = self.placed(region - 1, row - 1);
-        let input = self.inputs[placed.input];
         fill_row(
-            &input.gains[0..self.states],
-            placed.input,
+            &placed.input.input.gains[..self.states.count],
+            placed.place,
             placed.line,
             coefficients,
         );
@@ -200,15 +191,11 @@ impl Controller for Saturated {
     }
 
     fn command(&self, x: &[i64], u: &mut [i64]) -> Result<(), ControlFault> {
-        if x.len() != self.states || u.len() != self.count {
+        if u.len() != self.inputs.count() {
             return Err(ControlFault::Length);
         }
-        if !all_within(x, STATE_LIMIT) {
-            return Err(ControlFault::Range);
-        }
-        for j in 0..self.count {
-            u[j] = self.part_at(j, x);
-        }
+        let x = State::of(x, self.states)?;
+        self.inputs.command_at(&x).fill(u);
         Ok(())
     }
 }

@@ -1,17 +1,16 @@
 -- The elimination of a column: what its rows keep, and its answer.
-use Rattle.std.proofs.Common.{◌≡◌, ℕ, ◌+◌, ◌*◌, ◌≤◌, Bool, true, false, cond, leb, List, [], ◌∷◌, ◌++◌, map, length, take, Ok, Err, Result, sym, refl, ap, ◌∙◌, subst, arith}
+use Rattle.std.proofs.Common.{◌≡◌, ℕ, ◌+◌, ◌*◌, Bool, true, false, cond, leb, List, [], ◌∷◌, ◌++◌, map, length, Ok, Err, sym, refl, ◌∙◌}
 use Rattle.std.specs.List.{AllByRecursion}
 use Rattle.std.proofs.ByRecursion.{all_kept_by, kept_by_passes, All-append}
 use Rattle.std.proofs.lemmas.Bool.{and_parts}
+use Rattle.std.proofs.lemmas.List.Folds.{list_all-append}
 use Rattle.elimination.specs.declared.row.Row.{Row}
-use Rattle.elimination.specs.declared.row.Stop.{Stop}
 use Rattle.elimination.specs.declared.row.Stop.TheVariants.{Crowd, Number}
 use Rattle.fourier.specs.Cone.{is_zero, is_positive, is_negative}
 use Rattle.elimination.specs.Rows.{coefficient, joined_row, allowed, Proper, WhereOk}
 use Rattle.elimination.specs.Traced.{Source, Traced}
-use Rattle.elimination.specs.Columns.{most_rows, zeros, positives, negatives, pairs, all_allowed, extended, eliminated, counted, Begins, StaysTraced}
+use Rattle.elimination.specs.Columns.{most_rows, zeros, positives, negatives, pairs, all_allowed, extended, eliminated, StaysTraced}
 use Rattle.elimination.proofs.Pairs.{joined_proper, joins_exactly}
-use Rattle.elimination.proofs.Turns.{Filled, all_allowed_append}
 
 -- what the rows keep
 proper_map : (c : ℕ) (p : Row) (qs : List Row) → Proper p → is_positive (coefficient p c) ≡ true → AllByRecursion Proper qs → AllByRecursion (λ q. is_negative (coefficient q c) ≡ true) qs
@@ -25,7 +24,7 @@ proper_pairs : (c : ℕ) (ps qs : List Row) → AllByRecursion Proper ps → All
     → all_allowed (pairs c ps qs) ≡ true → AllByRecursion Proper (pairs c ps qs)
 proper_pairs c [] qs hp pp hq qn e = tt
 proper_pairs c (p ∷ ps) qs hp pp hq qn e =
-    let t = and_parts (all_allowed (map (joined_row c p) qs)) (all_allowed (pairs c ps qs)) (sym (all_allowed_append (map (joined_row c p) qs) (pairs c ps qs)) ∙ e) in
+    let t = and_parts (all_allowed (map (joined_row c p) qs)) (all_allowed (pairs c ps qs)) (sym (list_all-append allowed (map (joined_row c p) qs) (pairs c ps qs)) ∙ e) in
     All-append Proper (map (joined_row c p) qs) (pairs c ps qs) (proper_map c p qs hp.0 pp.0 hq qn t.0) (proper_pairs c ps qs hp.1 pp.1 hq qn t.1)
 
 traced_map : (system : List Source) (face : Source) (c : ℕ) (p : Row) (qs : List Row) → Proper p → is_positive (coefficient p c) ≡ true → AllByRecursion Proper qs → AllByRecursion (λ q. is_negative (coefficient q c) ≡ true) qs
@@ -39,22 +38,6 @@ traced_pairs : (system : List Source) (face : Source) (c : ℕ) (ps qs : List Ro
 traced_pairs system face c [] qs hp pp hq qn tp tq = tt
 traced_pairs system face c (p ∷ ps) qs hp pp hq qn tp tq =
     All-append (Traced system face) (map (joined_row c p) qs) (pairs c ps qs) (traced_map system face c p qs hp.0 pp.0 hq qn tp.0 tq) (traced_pairs system face c ps qs hp.1 pp.1 hq qn tp.1 tq)
-
--- the answer by the test of the number of rows
-eliminated_fits : (c : ℕ) (rows : List Row) → length (zeros c rows) + length (positives c rows) * length (negatives c rows) ≤ most_rows → eliminated c rows ≡ extended (zeros c rows) (pairs c (positives c rows) (negatives c rows))
-eliminated_fits c rows h =
-    ap (λ (t : Bool). cond t (extended (zeros c rows) (pairs c (positives c rows) (negatives c rows))) (Err Crowd)) (leb_yes _ _ h)
-  where
-    leb_yes : (m n : ℕ) → m ≤ n → leb m n ≡ true
-    leb_yes m n h = grind arith
-
--- rows with 0 copied, then the pairs behind them
-pub eliminated_filled : (c : ℕ) (rows copied out : List Row) (n : ℕ) (r : Result ℕ Stop) → length (zeros c rows) + length (positives c rows) * length (negatives c rows) ≤ most_rows → take n copied ≡ zeros c rows
-    → r ≡ counted (extended (take n copied) (pairs c (positives c rows) (negatives c rows))) → Begins out (extended (take n copied) (pairs c (positives c rows) (negatives c rows))) → Filled (eliminated c rows) out r
-eliminated_filled c rows copied out n r few front value begins =
-    let e : extended (take n copied) (pairs c (positives c rows) (negatives c rows)) ≡ eliminated c rows =
-    ap (λ (xs : List Row). extended xs (pairs c (positives c rows) (negatives c rows))) front ∙ sym (eliminated_fits c rows few) in
-    record { value = value ∙ ap counted e; rows = subst (Begins out) e begins }
 
 -- a fact of the rows with 0 and of the new rows is one of the answer
 eliminated_all : (P : Row → Type 0) (c : ℕ) (rows : List Row) → AllByRecursion P (zeros c rows) → (all_allowed (pairs c (positives c rows) (negatives c rows)) ≡ true → AllByRecursion P (pairs c (positives c rows) (negatives c rows))) → WhereOk (AllByRecursion P) (eliminated c rows)

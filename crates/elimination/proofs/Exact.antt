@@ -14,7 +14,7 @@ use Rattle.elimination.specs.Divisors.{Divides}
 use Rattle.elimination.specs.Rows.{coefficient, mixed, weighted, quotients, divided, content, reduced}
 use Rattle.elimination.specs.Traced.{Source, source_at, source_right, summed, Traced, Exact, ExactRow}
 use Rattle.elimination.proofs.Divisors.{divisor_divides}
-use Rattle.elimination.proofs.Mixed.{get_or_mixed}
+use Rattle.elimination.proofs.Mixed.{holds_at, get_or_mixed}
 
 -- a number that d divides
 pub exact_nat : (d n : ℕ) → 0 < d → Divides d n → d * (n / d) ≡ n
@@ -68,9 +68,7 @@ exact_zero : (d : ℕ) → Exact d (pos 0)
 exact_zero d = ap (λ (n : ℕ). pos (d * n)) (zero-div d) ∙ *ℤ-zero (pos d)
 
 pub exact_get_or : (d : ℕ) (zs : List ℤ) (i : ℕ) → AllByRecursion (Exact d) zs → Exact d (get_or zs i (pos 0))
-exact_get_or d [] i h = exact_zero d
-exact_get_or d (z ∷ zs) zero h = h.0
-exact_get_or d (z ∷ zs) (suc i) h = exact_get_or d zs i h.1
+exact_get_or d zs i h = holds_at (Exact d) zs i (exact_zero d) h
 
 exact_all : (d : ℕ) (zs : List ℤ) → ((i : ℕ) → Exact d (get_or zs i (pos 0))) → AllByRecursion (Exact d) zs
 exact_all d [] h = tt

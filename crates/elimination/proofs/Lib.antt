@@ -1,11 +1,10 @@
 -- The lemmas of the crate.
 pub mod Columns
-pub mod Counts
 pub mod Divisors
 pub mod Exact
-pub mod Joins
 pub mod Mixed
-pub mod Pairings
 pub mod Pairs
+pub mod Passing
+pub mod Propers
 pub mod Signs
-pub mod Turns
+pub mod Standing

@@ -10,10 +10,14 @@ use Rattle.arith.specs.Bounds.{Within}
 use Rattle.arith.proofs.Bounds.{sfits_within, product_within}
 use Rattle.elimination.specs.Rows.{number_limit, sum_limit, mixed, quotients}
 
+-- what holds of 0 and of each entry holds at every place
+pub holds_at : (P : ℤ → Type 0) (zs : List ℤ) (i : ℕ) → P (pos 0) → AllByRecursion P zs → P (get_or zs i (pos 0))
+holds_at P [] i o h = o
+holds_at P (z ∷ zs) zero o h = h.0
+holds_at P (z ∷ zs) (suc i) o h = holds_at P zs i o h.1
+
 pub within_get_or : (m : ℕ) (zs : List ℤ) (i : ℕ) → AllByRecursion (Within m) zs → Within m (get_or zs i (pos 0))
-within_get_or m [] i h = (omega (arith, ints), omega (arith, ints))
-within_get_or m (z ∷ zs) zero h = h.0
-within_get_or m (z ∷ zs) (suc i) h = within_get_or m zs i h.1
+within_get_or m zs i h = holds_at (Within m) zs i (omega (arith, ints), omega (arith, ints)) h
 
 pub abs_within : (m : ℕ) (z : ℤ) → Within m z → nat_abs z ≤ m
 abs_within m z w = omega (arith, ints, w.0, w.1)
@@ -55,49 +59,15 @@ mixed_within x y (p ∷ ps) (q ∷ qs) hx hy hp hq = (sum_within x p y q hx hp.0
 
 -- the numbers that code makes of x × a + y × b fit
 pub record SumFits (x a y b : ℤ) : Type 0 where
-  pub x_fits : SFits w64 x
-  pub a_fits : SFits w64 a
-  pub y_fits : SFits w64 y
-  pub b_fits : SFits w64 b
-  pub first_fits : SFits w64 (x *ℤ a)
-  pub second_fits : SFits w64 (y *ℤ b)
-  pub sum_fits : SFits w64 (x *ℤ a +ℤ y *ℤ b)
-
-pub number_fits : (z : ℤ) → Within number_limit z → SFits w64 z
-number_fits z h = sfits_within number_limit z (lit< tt) h
+  pub first : SFits w64 (x *ℤ a)
+  pub second : SFits w64 (y *ℤ b)
+  pub sum : SFits w64 (x *ℤ a +ℤ y *ℤ b)
 
 product_fits : (a b : ℤ) → Within number_limit a → Within number_limit b → SFits w64 (a *ℤ b)
 product_fits a b ha hb = sfits_within (number_limit * number_limit) (a *ℤ b) (lit< tt) (product_within number_limit number_limit a b ha hb)
 
 pub sum_of : (x a y b : ℤ) → Within number_limit x → Within number_limit a → Within number_limit y → Within number_limit b → SumFits x a y b
-sum_of x a y b hx ha hy hb = record {
-  x_fits = number_fits x hx;
-  a_fits = number_fits a ha;
-  y_fits = number_fits y hy;
-  b_fits = number_fits b hb;
-  first_fits = product_fits x a hx ha;
-  second_fits = product_fits y b hy hb;
-  sum_fits = sfits_within sum_limit _ (lit< tt) (sum_within x a y b hx ha hy hb);
-}
-
--- what code computes: each number passes through its bits
-pub code_product_fits : (a b : ℤ) → SFits w64 a → SFits w64 b → SFits w64 (a *ℤ b) → SFits w64 (to_z w64 (of_z w64 a) *ℤ to_z w64 (of_z w64 b))
-code_product_fits a b fa fb f = simp to_z-of_z f
-
-abbrev pub code_sum : ℤ → ℤ → ℤ → ℤ → ℤ
-code_sum x a y b = to_z w64 (of_z w64 (to_z w64 (of_z w64 x) *ℤ to_z w64 (of_z w64 a))) +ℤ to_z w64 (of_z w64 (to_z w64 (of_z w64 y) *ℤ to_z w64 (of_z w64 b)))
-
-code_sum_read : (x a y b : ℤ) → SFits w64 x → SFits w64 a → SFits w64 y → SFits w64 b → SFits w64 (x *ℤ a) → SFits w64 (y *ℤ b) → code_sum x a y b ≡ x *ℤ a +ℤ y *ℤ b
-code_sum_read x a y b fx fa fy fb fp fq = simp to_z-of_z
-
-pub code_sum_is : (x a y b : ℤ) → SumFits x a y b → code_sum x a y b ≡ x *ℤ a +ℤ y *ℤ b
-code_sum_is x a y b f = code_sum_read x a y b f.x_fits f.a_fits f.y_fits f.b_fits f.first_fits f.second_fits
-
-pub code_sum_fits : (x a y b : ℤ) → SumFits x a y b → SFits w64 (code_sum x a y b)
-code_sum_fits x a y b f = rw (code_sum_is x a y b f) f.sum_fits
-
-pub code_sum_value : (x a y b : ℤ) → SumFits x a y b → to_z w64 (of_z w64 (code_sum x a y b)) ≡ x *ℤ a +ℤ y *ℤ b
-code_sum_value x a y b f = ap (λ z. to_z w64 (of_z w64 z)) (code_sum_is x a y b f) ∙ to_z-of_z w64 _ f.sum_fits
+sum_of x a y b hx ha hy hb = record { first = product_fits x a hx ha; second = product_fits y b hy hb; sum = sfits_within sum_limit _ (lit< tt) (sum_within x a y b hx ha hy hb) }
 
 -- x × a + y × b, with x and y from their bits
 factors_read : (x y a b : ℤ) → SFits w64 x → SFits w64 y → to_z w64 (of_z w64 x) *ℤ a +ℤ to_z w64 (of_z w64 y) *ℤ b ≡ x *ℤ a +ℤ y *ℤ b
@@ -107,12 +77,8 @@ factors_read x y a b fx fy = simp to_z-of_z
 abbrev pub MixedTo : ℤ → ℤ → List ℤ → List ℤ → List ℤ → ℕ → Type 0
 MixedTo x y ps qs out k = (i : ℕ) → i < k → get_or out i (pos 0) ≡ x *ℤ get_or ps i (pos 0) +ℤ y *ℤ get_or qs i (pos 0)
 
-pub mixed_more : (x y : ℤ) (out ps qs : List ℤ) (k : ℕ) → SumFits x (get_or ps k (pos 0)) y (get_or qs k (pos 0)) → k < length out
-    → MixedTo (to_z w64 (of_z w64 x)) (to_z w64 (of_z w64 y)) ps qs out k → MixedTo (to_z w64 (of_z w64 x)) (to_z w64 (of_z w64 y)) ps qs (set out k (to_z w64 (of_z w64 (code_sum x (get_or ps k (pos 0)) y (get_or qs k (pos 0)))))) (k + 1)
-mixed_more x y out ps qs k f l inv i m =
-    ap (λ (z : ℤ). get_or (set out k z) i (pos 0)) (code_sum_value x (get_or ps k (pos 0)) y (get_or qs k (pos 0)) f)
-    ∙ fill_by_more (λ (j : ℕ). x *ℤ get_or ps j (pos 0) +ℤ y *ℤ get_or qs j (pos 0)) out k (pos 0) l (λ j n. inv j n ∙ factors_read x y (get_or ps j (pos 0)) (get_or qs j (pos 0)) f.x_fits f.y_fits) i m
-    ∙ sym (factors_read x y (get_or ps i (pos 0)) (get_or qs i (pos 0)) f.x_fits f.y_fits)
+pub mixed_more : (x y : ℤ) (sum ps qs : List ℤ) (k : ℕ) (v : ℤ) → k < length sum → v ≡ x *ℤ get_or ps k (pos 0) +ℤ y *ℤ get_or qs k (pos 0) → MixedTo x y ps qs sum k → MixedTo x y ps qs (set sum k v) (k + 1)
+mixed_more x y sum ps qs k v l e inv = rw e (fill_by_more (λ (j : ℕ). x *ℤ get_or ps j (pos 0) +ℤ y *ℤ get_or qs j (pos 0)) sum k (pos 0) l inv)
 
 pub mixed_done : (x y : ℤ) (out ps qs : List ℤ) (n : ℕ) → SFits w64 x → SFits w64 y → length ps ≡ length out → length qs ≡ length out → n ≡ length out → MixedTo (to_z w64 (of_z w64 x)) (to_z w64 (of_z w64 y)) ps qs out n → out ≡ mixed x y ps qs
 mixed_done x y out ps qs n fx fy p q e inv = mixed_all x y out ps qs n p q e (λ j m. inv j m ∙ factors_read x y (get_or ps j (pos 0)) (get_or qs j (pos 0)) fx fy)
@@ -129,6 +95,3 @@ quotients_more d xs ys i fd h fz l m e =
     let fq = quot_fits (get_or ys i (pos 0)) d fz h in
     let step = map_over_more (λ (z : ℤ). quot_z z d) xs ys i (get_or ys i (pos 0)) l (simp to_z-of_z at e) (get_or_default ys i (pos 0) (get_or ys i (pos 0)) m) in
     simp to_z-of_z step
-
-pub quot_read : (z d : ℤ) → SFits w64 z → SFits w64 d → pos 0 <ℤ d → to_z w64 (of_z w64 (quot_z (to_z w64 (of_z w64 z)) (to_z w64 (of_z w64 d)))) ≡ quot_z z d
-quot_read z d fz fd h = let fq = quot_fits z d fz h in simp to_z-of_z

@@ -1,23 +1,21 @@
 -- The row of two rows: its factors, its divisor, and what it keeps.
-use Rattle.std.proofs.Common.{◌≡◌, ℕ, zero, suc, ◌*◌, ◌/◌, ◌<◌, ◌≤◌, Bool, true, false, cond, ◌&&◌, List, [], ◌∷◌, get_or, ℤ, pos, negsuc, ◌+ℤ◌, ◌*ℤ◌, nat_abs, ◌≤ℤ◌, ◌<ℤ◌, Ok, Err, sym, refl, ap, ◌∙◌, ap₂, inl, inr, div-le_self, arith, w64, SFits, to_z, of_z}
+use Rattle.std.proofs.Common.{◌≡◌, ℕ, zero, suc, ◌*◌, ◌/◌, ◌<◌, ◌≤◌, true, ◌&&◌, List, [], ◌∷◌, get_or, ℤ, pos, negsuc, ◌+ℤ◌, ◌*ℤ◌, nat_abs, ◌≤ℤ◌, ◌<ℤ◌, sym, ◌∙◌, inl, inr, div-le_self, arith}
 use lib.IntN.{*ℤ-zero}
 use lib.Signed.{quot_z}
 use Rattle.std.specs.List.{AllByRecursion}
 use Rattle.std.proofs.lemmas.List.{length-map}
-use Rattle.std.proofs.lemmas.Int.{ints, to_z-of_z}
+use Rattle.std.proofs.lemmas.Int.{ints}
 use Rattle.std.proofs.lemmas.Bool.{and_parts}
 use Rattle.arith.specs.Bounds.{Within, within, all_within}
 use Rattle.arith.proofs.Bounds.{within_from_test, all_from_test, within_wider, all_wider}
 use Rattle.arith.proofs.Floors.{mul_mono, mul_one}
 use Rattle.elimination.specs.declared.row.Row.{Row}
-use Rattle.elimination.specs.declared.row.Stop.TheVariants.{Number}
 use Rattle.elimination.specs.Divisors.{gcd, Divides}
-use Rattle.fourier.specs.Cone.{is_positive, is_negative}
-use Rattle.elimination.specs.Rows.{multiplier_limit, number_limit, sum_limit, coefficient, mixed, weighted, quotients, divided, content, reduced, joined_sum, joined_row, allowed, judged, Weighty, Proper, WhereOk}
+use Rattle.elimination.specs.Rows.{multiplier_limit, number_limit, sum_limit, coefficient, mixed, weighted, quotients, content, reduced, joined_sum, joined_row, allowed, Weighty, Proper, Pair}
 use Rattle.elimination.specs.Traced.{JoinsExactly}
 use Rattle.elimination.proofs.Divisors.{gcd_divides, divides_above, divisor_divides}
 use Rattle.elimination.proofs.Exact.{exact_nat, exact_above, content_exact, exact_get_or, get_or_quotients, traced_weighted, exact_row, traced_reduced}
-use Rattle.elimination.proofs.Mixed.{within_get_or, abs_within, length_mixed, get_or_mixed, sum_within, mixed_within}
+use Rattle.elimination.proofs.Mixed.{holds_at, within_get_or, abs_within, length_mixed, get_or_mixed, sum_within, mixed_within}
 use Rattle.elimination.proofs.Signs.{negative_above}
 
 -- a factor of the combination: at least 1, at most the limit
@@ -44,9 +42,7 @@ mixed_low x y (p ∷ ps) [] h k = tt
 mixed_low x y (p ∷ ps) (q ∷ qs) h k = (sum_low x y p q h.0 k.0, mixed_low x y ps qs h.1 k.1)
 
 pub low_get_or : (zs : List ℤ) (k : ℕ) → AllByRecursion (λ m. pos 0 ≤ℤ m) zs → pos 0 ≤ℤ get_or zs k (pos 0)
-low_get_or [] k h = omega (arith, ints)
-low_get_or (z ∷ zs) zero h = h.0
-low_get_or (z ∷ zs) (suc k) h = low_get_or zs k h.1
+low_get_or zs k h = holds_at (λ m. pos 0 ≤ℤ m) zs k (omega (arith, ints)) h
 
 -- a combination of weighty rows is weighty
 weighted_weighty : (x y : ℕ) (p q : Row) → 0 < x → Proper p → Proper q → Weighty (weighted (pos x) (pos y) p q)
@@ -60,9 +56,7 @@ pub abs_above : (z : ℤ) → pos 0 <ℤ z → 0 < nat_abs z
 abs_above z h = omega (arith, ints)
 
 pub divides_get_or : (d : ℕ) (zs : List ℤ) (k : ℕ) → AllByRecursion (λ z. Divides d (nat_abs z)) zs → Divides d (nat_abs (get_or zs k (pos 0)))
-divides_get_or d [] k h = (0, omega arith)
-divides_get_or d (z ∷ zs) zero h = h.0
-divides_get_or d (z ∷ zs) (suc k) h = divides_get_or d zs k h.1
+divides_get_or d zs k h = holds_at (λ z. Divides d (nat_abs z)) zs k (0, omega arith) h
 
 pub content_above : (r : Row) → Weighty r → 0 < content r
 content_above r w =
@@ -88,13 +82,6 @@ quotient_low d (negsuc n) h = absurd (omega (arith, ints))
 quotients_low : (d : ℕ) (zs : List ℤ) → AllByRecursion (λ m. pos 0 ≤ℤ m) zs → AllByRecursion (λ m. pos 0 ≤ℤ m) (quotients (pos d) zs)
 quotients_low d [] h = tt
 quotients_low d (z ∷ zs) h = (quotient_low d z h.0, quotients_low d zs h.1)
-
--- two rows that are combined in column c
-pub record Pair (c : ℕ) (p q : Row) : Type 0 where
-  pub first : Proper p
-  pub second : Proper q
-  pub positive : is_positive (coefficient p c) ≡ true
-  pub negative : is_negative (coefficient q c) ≡ true
 
 sum_weighty : (c : ℕ) (p q : Row) → Pair c p q → Weighty (joined_sum c p q)
 sum_weighty c p q h =
@@ -145,12 +132,8 @@ joined_proper c p q h e =
       weighty = reduced_weighty m (sum_weighty c p q h);
     }
 
-pub judged_proper : (c : ℕ) (p q : Row) → Pair c p q → WhereOk Proper (judged (joined_row c p q))
-judged_proper c p q h = by (allowed (joined_row c p q)) refl
-  where
-    by : (t : Bool) → allowed (joined_row c p q) ≡ t → WhereOk Proper (cond t (Ok (joined_row c p q)) (Err Number))
-    by true e = joined_proper c p q h e
-    by false e = tt
+pub row_proper : (c : ℕ) (p q r : Row) → Pair c p q → r ≡ joined_row c p q → allowed r ≡ true → Proper r
+row_proper c p q r h e t = rw e (joined_proper c p q h (rw e at t))
 
 -- the division is exact, and what is traced stays so
 pub joins_exactly : (c : ℕ) (p q : Row) → Pair c p q → JoinsExactly c p q
@@ -160,19 +143,3 @@ joins_exactly c p q h system face tp tq =
     let t = traced_weighted system face (pos (b / gcd a b)) (pos (a / gcd a b)) p q (h.first.long ∙ sym h.second.long) (h.first.wide ∙ sym h.second.wide) tp tq in
     let e = exact_row system face (joined_sum c p q) (sum_content c p q h) t in
     record { exact = e; traced = traced_reduced system face (joined_sum c p q) (sum_content c p q h) t }
-
--- what the code's steps come to
-pub join_sum_is : (c : ℕ) (p q s : Row) (a b g : ℕ) (x y : ℤ) → a ≡ nat_abs (coefficient p c) → b ≡ nat_abs (coefficient q c) → g ≡ gcd a b → x ≡ pos (b / g) → y ≡ pos (a / g)
-    → SFits w64 x → SFits w64 y → s ≡ weighted (to_z w64 (of_z w64 x)) (to_z w64 (of_z w64 y)) p q → s ≡ joined_sum c p q
-join_sum_is c p q s a b g x y ea eb eg ex ey fx fy e =
-    let d : g ≡ gcd (nat_abs (coefficient p c)) (nat_abs (coefficient q c)) = eg ∙ ap₂ gcd ea eb in
-    e ∙ ap₂ (λ (u v : ℤ). weighted u v p q) (to_z-of_z w64 x fx ∙ ex ∙ ap₂ (λ (m n : ℕ). pos (m / n)) eb d) (to_z-of_z w64 y fy ∙ ey ∙ ap₂ (λ (m n : ℕ). pos (m / n)) ea d)
-
-pub combine_is : (c : ℕ) (p q s r : Row) (d : ℤ) → s ≡ joined_sum c p q → d ≡ pos (content s) → SFits w64 d → r ≡ divided (to_z w64 (of_z w64 d)) s → r ≡ joined_row c p q
-combine_is c p q s r d es ed f er = er ∙ ap (λ (z : ℤ). divided z s) (to_z-of_z w64 d f ∙ ed) ∙ ap reduced es
-
-pub judged_yes : (r s : Row) (t : Bool) → t ≡ allowed r → t ≡ true → r ≡ s → Ok r ≡ judged s
-judged_yes r s t e f g = rw (← g) (rw (sym e ∙ f) refl)
-
-pub judged_no : (r s : Row) (t : Bool) → t ≡ allowed r → t ≡ false → r ≡ s → Err Number ≡ judged s
-judged_no r s t e f g = rw (← g) (rw (sym e ∙ f) refl)

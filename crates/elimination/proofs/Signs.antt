@@ -1,10 +1,10 @@
 -- Lemmas on the signs of numbers, and on rows whose coefficients are all 0.
-use Rattle.std.proofs.Common.{◌≡◌, ℕ, zero, suc, ◌<◌, true, false, T, List, [], ◌∷◌, get_or, ℤ, pos, negsuc, neg_ℤ, nat_abs, ◌≤ℤ◌, ◌<ℤ◌, sym, refl, ap, subst, arith}
+use Rattle.std.proofs.Common.{◌≡◌, ℕ, zero, suc, ◌<◌, true, false, T, List, [], ◌∷◌, get_or, ℤ, pos, negsuc, neg_ℤ, nat_abs, sym, refl, subst, arith}
 use Rattle.std.proofs.lemmas.Int.{ints}
 use Rattle.arith.specs.Bounds.{Within, all_within}
 use Rattle.arith.proofs.Bounds.{all_from_test}
 use Rattle.elimination.specs.declared.row.Row.{Row}
-use Rattle.fourier.specs.Cone.{is_zero, is_positive, is_negative}
+use Rattle.fourier.specs.Cone.{is_positive, is_negative}
 use Rattle.elimination.specs.Rows.{BlankForm}
 use Rattle.elimination.proofs.Mixed.{within_get_or}
 
@@ -12,10 +12,6 @@ pub false_true : {P : Type 0} → false ≡ true → P
 false_true e = absurd (subst T (sym e) tt)
 
 -- a test, as a fact
-pub zero_is : (z : ℤ) → is_zero z ≡ true → z ≡ pos 0
-zero_is (pos zero) e = refl
-zero_is (pos (suc n)) e = false_true e
-zero_is (negsuc n) e = false_true e
 
 pub positive_is : (z : ℤ) → is_positive z ≡ true → z ≡ pos (nat_abs z)
 positive_is (pos n) e = refl
@@ -33,44 +29,6 @@ positive_above (negsuc n) e = false_true e
 pub negative_above : (z : ℤ) → is_negative z ≡ true → 0 < nat_abs z
 negative_above (pos n) e = false_true e
 negative_above (negsuc n) e = omega arith
-
--- a fact, as a test
-pub below_negative : (z : ℤ) → z <ℤ pos 0 → is_negative z ≡ true
-below_negative (pos n) h = absurd (omega (arith, ints))
-below_negative (negsuc n) h = refl
-
-pub not_negative : (z : ℤ) → pos 0 ≤ℤ z → is_negative z ≡ false
-not_negative (pos n) h = refl
-not_negative (negsuc n) h = absurd (omega (arith, ints))
-
-pub above_positive : (z : ℤ) → pos 0 <ℤ z → is_positive z ≡ true
-above_positive (pos zero) h = absurd (omega (arith, ints))
-above_positive (pos (suc n)) h = refl
-above_positive (negsuc n) h = absurd (omega (arith, ints))
-
-pub not_positive : (z : ℤ) → z ≤ℤ pos 0 → is_positive z ≡ false
-not_positive (pos zero) h = refl
-not_positive (pos (suc n)) h = absurd (omega (arith, ints))
-not_positive (negsuc n) h = refl
-
-pub equal_zero : (z : ℤ) → z ≡ pos 0 → is_zero z ≡ true
-equal_zero z e = ap is_zero e
-
-pub not_zero : (z : ℤ) → (z ≡ pos 0 → ⊥) → is_zero z ≡ false
-not_zero (pos zero) h = absurd (h refl)
-not_zero (pos (suc n)) h = refl
-not_zero (negsuc n) h = refl
-
--- of the three tests exactly one passes
-pub positive_only : (z : ℤ) → is_positive z ≡ true → (is_zero z ≡ false) × (is_negative z ≡ false)
-positive_only (pos zero) e = false_true e
-positive_only (pos (suc n)) e = (refl, refl)
-positive_only (negsuc n) e = false_true e
-
-pub negative_left : (z : ℤ) → is_zero z ≡ false → is_positive z ≡ false → is_negative z ≡ true
-negative_left (pos zero) e f = sym e
-negative_left (pos (suc n)) e f = sym f
-negative_left (negsuc n) e f = refl
 
 -- all coefficients are 0
 zero_within : (z : ℤ) → Within 0 z → z ≡ pos 0

@@ -1,6 +1,6 @@
 -- The elimination of one column from a list of rows.
-use Rattle.std.specs.Prelude.{◌≡◌, ℕ, ◌+◌, ◌*◌, Bool, true, cond, ◌&&◌, List, [], ◌∷◌, ◌++◌, length, take, Ok, Err, Result, nat_le}
-use Rattle.std.specs.List.{AllByRecursion}
+use Rattle.std.specs.Prelude.{◌≡◌, ℕ, ◌+◌, ◌*◌, Bool, cond, List, ◌++◌, length, take, Ok, Err, Result, nat_le}
+use Rattle.std.specs.List.{AllByRecursion, list_all}
 use Rattle.elimination.specs.declared.row.Row.{Row}
 use Rattle.elimination.specs.declared.row.Stop.{Stop}
 use Rattle.elimination.specs.declared.row.Stop.TheVariants.{Crowd, Number}
@@ -27,8 +27,7 @@ abbrev pub pairs : ℕ → List Row → List Row → List Row
 pairs c ps qs = cone.pairs (joined_row c) ps qs
 
 abbrev pub all_allowed : List Row → Bool
-all_allowed [] = true
-all_allowed (r ∷ rs) = allowed r && all_allowed rs
+all_allowed rows = list_all allowed rows
 
 -- rows followed by new ones, unless a new one passes a limit
 abbrev pub extended : List Row → List Row → Result (List Row) Stop

@@ -2,4 +2,5 @@
 pub mod Columns
 pub mod Divisors
 pub mod Rows
+pub mod Standing
 pub mod Traced

@@ -1,6 +1,6 @@
 -- Rows of an elimination: their tests, their limits, and the row of two rows in which a column falls out.
-use Rattle.std.specs.Prelude.{◌≡◌, ℕ, ◌/◌, Bool, true, cond, ◌&&◌, ◌||◌, ◌⊎◌, List, [], ◌∷◌, map, length, ℤ, pos, ◌+ℤ◌, ◌*ℤ◌, ◌≤ℤ◌, ◌<ℤ◌, Ok, Err, Result, int_div, slice_index_or, unsigned_abs}
-use Rattle.std.specs.List.{AllByRecursion}
+use Rattle.std.specs.Prelude.{◌≡◌, ℕ, ◌/◌, Bool, true, cond, ◌&&◌, ◌||◌, ◌⊎◌, List, [], ◌∷◌, map, length, ℤ, pos, ◌+ℤ◌, ◌*ℤ◌, ◌≤ℤ◌, ◌<ℤ◌, Ok, Err, Result, int_div, int_le, int_lt, slice_index_or, unsigned_abs}
+use Rattle.std.specs.List.{AllByRecursion, list_all, list_any}
 use Rattle.arith.specs.Bounds.{Within, within, all_within}
 use Rattle.fourier.specs.Cone.{Vector, multiplier, scale, column, right, is_zero, is_positive, is_negative}
 use Rattle.elimination.specs.declared.row.Row.{Row}
@@ -111,6 +111,23 @@ pub record Proper (r : Row) : Type 0 where
   pub multipliers_low : AllByRecursion (λ m. pos 0 ≤ℤ m) r.multipliers
   pub scale_low : pos 0 ≤ℤ r.scale
   pub weighty : Weighty r
+
+-- the test of it: no multiplier and no scale is below 0, and one of them is above 0
+abbrev pub low : Row → Bool
+low r = int_le (pos 0) r.scale && list_all (λ m. int_le (pos 0) m) r.multipliers
+
+abbrev pub weighty : Row → Bool
+weighty r = int_lt (pos 0) r.scale || list_any (λ m. int_lt (pos 0) m) r.multipliers
+
+abbrev pub proper : Row → Bool
+proper r = allowed r && (low r && weighty r)
+
+-- two rows that are combined in column c
+pub record Pair (c : ℕ) (p q : Row) : Type 0 where
+  pub first : Proper p
+  pub second : Proper q
+  pub positive : is_positive (coefficient p c) ≡ true
+  pub negative : is_negative (coefficient q c) ≡ true
 
 -- a fact of what is answered, where it is not a stop
 abbrev pub WhereOk : {X : Type 0} → (X → Type 0) → Result X Stop → Type 0

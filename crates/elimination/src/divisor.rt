@@ -7,12 +7,10 @@ pub fn common_divisor(a: u64, b: u64) -> u64
     ensures value { result ≡ gcd a b }
     ensures greatest { Greatest a b result }
 {
-    let mut x = a;
-    let mut y = b;
+    // A loop that counts no index, and no recursion: it asks for no stack (docs/HOST.md).
+    let (mut x, mut y) = (a, b);
     while y != 0 {
-        let rest = x % y;
-        x = y;
-        y = rest;
+        (x, y) = (y, x % y);
     }
     x
 }
@@ -21,9 +19,7 @@ pub fn common_divisor(a: u64, b: u64) -> u64
 pub(crate) fn divisor_of(g: u64, values: &[i64]) -> u64
     ensures value { result ≡ divisor g values.now }
 {
-    let mut d = g;
-    for value in values {
-        d = common_divisor(d, value.unsigned_abs());
-    }
-    d
+    values
+        .iter()
+        .fold(g, |d, value| common_divisor(d, value.unsigned_abs()))
 }

@@ -6,8 +6,10 @@ mod divisor;
 mod lists;
 mod pair;
 mod row;
+mod rows;
 
 pub use column::eliminate;
 pub use divisor::common_divisor;
 pub use pair::combine;
-pub use row::{COLUMNS, MULTIPLIERS, Row, Stop};
+pub use row::{COLUMNS, Column, MULTIPLIERS, ProperRow, Row, Stop};
+pub use rows::ProperRows;

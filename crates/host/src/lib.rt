@@ -8,6 +8,7 @@ ghost use Rattle.judgement.specs.Judging.{judged};
 ghost use Rattle.host.specs.Causes.{verdict_cause};
 
 use judgement::judge_text;
+use report::verdict::Report;
 
 // The cause of the verdict on a law text with a case text directly after it; accepted is 0.
 #[unsafe(no_mangle)]
@@ -17,7 +18,8 @@ pub extern "C" fn vangprune_verdict(text: &[u8]) -> u32
     ensures sound { result ≡ 0 → InvariantText text.now }
 {
     match judge_text(text) {
+        // The interface of C has numbers alone.
         Ok(_) => 0,
-        Err(fault) => fault.report().cause,
+        Err(fault) => Report::from(fault).cause,
     }
 }

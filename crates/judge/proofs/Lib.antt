@@ -1,2 +1,2 @@
+-- The lemmas of the crate.
 pub mod Counts
-pub mod Known

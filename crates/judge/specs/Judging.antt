@@ -9,6 +9,7 @@ use Rattle.laws.specs.Controllers.{law_meaning}
 use Rattle.laws.specs.Laws.{LawText, law_of}
 use Rattle.laws.specs.Reports.{law_report}
 use Rattle.laws.specs.declared.faults.LawFault.{LawFault}
+use Rattle.report.specs.declared.verdict.Report.{Report}
 use Rattle.report.specs.declared.verdict.Verdict.{Verdict}
 use Rattle.report.specs.declared.verdict.Verdict.TheVariants.{Read, Refused}
 
@@ -30,3 +31,8 @@ verdict_by (Err fault) = Refused (law_report fault)
 
 abbrev pub verdict_of : List ℕ → Verdict
 verdict_of text = verdict_by (law_of text)
+
+-- the verdict that counts, or a report of a fault, give
+abbrev pub counts_verdict : Result (ℕ × ℕ) Report → Verdict
+counts_verdict (Ok p) = Read p.0 p.1
+counts_verdict (Err report) = Refused report

@@ -1,41 +1,34 @@
-// From the bytes of a law text with a case text directly after it to a verdict.
+// From the bytes of a law text with a case text directly after it to a verdict. It stops before the proof lines, and promises
+// so; judgement goes on to them.
 #![tactic(auto)]
 
-ghost use Rattle.std.specs.Prelude.{◌≡◌, ◌≤◌};
-ghost use Rattle.judge.specs.Judging.{case_verdict, verdict_of};
+ghost use Rattle.std.specs.Prelude.{◌≡◌};
+ghost use Rattle.judge.specs.Judging.{counts_verdict, verdict_of};
 
 use case::reading::read_case;
 use case::values::Case;
 use control::Controller;
-use laws::law::Law;
-use laws::reading::read_law;
-use laws::table::LawTable;
-use report::verdict::Verdict;
+use laws::reading::read_controller;
+use report::verdict::{Report, Verdict};
 
-// Reads a case text for a law of so many regions, and tells both counts, or the first fault.
-fn judge_case(regions: u32, text: &[u8]) -> Verdict
-    ensures { result ≡ case_verdict regions text.now }
+// Reads a law text and the case text after it, and gives the counts of regions and of faces, or what the first fault
+// tells.
+fn read_counts(text: &[u8]) -> Result<(u32, u32), Report>
+    ensures { counts_verdict result ≡ verdict_of text.now }
 {
+    let (law, rest) = read_controller(text)?;
     let mut case = Case::blank();
-    match read_case(text, &mut case) {
-        Ok(()) => Verdict::Read {
-            regions,
-            faces: (2 * case.states + case.extras) as u32,
-        },
-        Err(fault) => Verdict::Refused(fault.report()),
-    }
+    read_case(rest, &mut case)?;
+    let faces = 2 * case.states + case.extras;
+    Ok((law.regions() as u32, faces as u32))
 }
 
 // Reads a law text and the case text after it, and tells the counts of regions and of faces, or the first fault.
 pub fn judge_text(text: &[u8]) -> Verdict
     ensures { result ≡ verdict_of text.now }
 {
-    let mut table = LawTable::Fixed([0, 0]);
-    match read_law(text, &mut table) {
-        Ok((states, inputs, rest)) => match Law::new(states, inputs, &table) {
-            Some(law) => judge_case(law.regions() as u32, rest),
-            None => unreachable(),
-        },
-        Err(fault) => Verdict::Refused(fault.report()),
+    match read_counts(text) {
+        Ok((regions, faces)) => Verdict::Read { regions, faces },
+        Err(report) => Verdict::Refused(report),
     }
 }

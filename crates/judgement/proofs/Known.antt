@@ -1,5 +1,5 @@
 -- What is known once a law text is read, and once a case text is read.
-use Rattle.std.proofs.Common.{◌≡◌, ℕ, ◌+◌, ◌*◌, true, List, length, Ok, Err, Result, sym, ap, ◌∙◌, arith}
+use Rattle.std.proofs.Common.{◌≡◌, ℕ, ◌+◌, ◌*◌, List, length, Ok, Err, Result, sym, ap, ◌∙◌, arith}
 use Rattle.text.specs.Lines.{bind}
 use Rattle.control.specs.Meaning.{Meaning}
 use Rattle.case.specs.Faces.{faces}
@@ -9,55 +9,26 @@ use Rattle.case.specs.Texts.{CaseText, case_of}
 use Rattle.case.specs.Values.{values_of}
 use Rattle.case.specs.declared.faults.CaseFault.{CaseFault}
 use Rattle.case.specs.declared.values.Case.{Case}
+use Rattle.case.proofs.Faces.{faces_count}
 use Rattle.checking.specs.Checking.{check_of}
 use Rattle.checking.specs.declared.faults.CheckFault.{CheckFault}
 use Rattle.checking.specs.declared.faults.CheckFault.TheVariants.{Law as OfLaw, Case as OfCase}
-use Rattle.laws.specs.Controllers.{table_ok, table_meaning, law_meaning}
-use Rattle.laws.specs.Forms.{LawMeant}
-use Rattle.laws.specs.Laws.{LawText, law_of}
-use Rattle.laws.specs.Tables as laws
+use Rattle.laws.specs.Controllers.{law_meaning, controller_of}
 use Rattle.laws.specs.declared.faults.LawFault.{LawFault}
-use Rattle.laws.specs.declared.table.LawTable.{LawTable}
-use Rattle.laws.proofs.Composing.{known}
-use Rattle.system.proofs.Counts.{faces_count}
+use Rattle.laws.proofs.Making.{controller_read, controller_refused}
 use Rattle.judgement.specs.Judging.{of_law, of_case, first_line, proofs_judged, case_judged, judged}
 use Rattle.judgement.specs.declared.Accepted.{Accepted}
 
--- A law text.
-
-pub record Meant (text : List ℕ) (n m : ℕ) (rest : List ℕ) (table : LawTable) : Type 0 where
-  pub law : LawText
-  pub was : law_of text ≡ Ok (law, rest)
-  pub ok : table_ok n m table ≡ true
-  pub meaning_is : table_meaning n m table ≡ law_meaning law
-
-pub meant : (text : List ℕ) (n m : ℕ) (rest : List ℕ) (old table : LawTable) → Ok (n, m, rest) ≡ laws.answer_of (law_of text) → table ≡ laws.place_after old (law_of text) → LawMeant text
-    → Meant text n m rest table
-unfolding LawMeant
-meant text n m rest old table e t h =
-    let k = known (law_of text) n m rest old table e t in
-    let g = h k.law rest k.was in
-    record {
-      law = k.law;
-      was = k.was;
-      ok = ap (λ i. table_ok i m table) k.states_are ∙ ap (λ i. table_ok k.law.states i table) k.inputs_are ∙ ap (table_ok k.law.states (length k.law.rows)) k.table_is ∙ g.0;
-      meaning_is = ap (λ i. table_meaning i m table) k.states_are ∙ ap (λ i. table_meaning k.law.states i table) k.inputs_are ∙ ap (table_meaning k.law.states (length k.law.rows)) k.table_is ∙ g.1;
-    }
-
-law_fault : (r : Result (LawText × List ℕ) LawFault) (f : LawFault) → Err f ≡ laws.answer_of r → r ≡ Err f
-law_fault (Ok p) f e = grind arith
-law_fault (Err d) f e = let k : f ≡ d = cc in ap Err (sym k)
-
 -- what is answered to a law text that is refused, and to one that is read
-pub law_refused : (text : List ℕ) (f : LawFault) → Err f ≡ laws.answer_of (law_of text) → judged text ≡ Err (OfLaw f)
+pub law_refused : (text : List ℕ) (f : LawFault) → Err f ≡ controller_of text → judged text ≡ Err (OfLaw f)
 unfolding judged
-law_refused text f e = ap (λ r. bind (of_law r) (λ p. case_judged (law_meaning p.0) p.1)) (law_fault (law_of text) f e)
+law_refused text f e = ap (λ r. bind (of_law r) (λ p. case_judged (law_meaning p.0) p.1)) (controller_refused text f e)
 
-pub law_read : (text : List ℕ) (law : LawText) (rest : List ℕ) (m : Meaning) (r : Result Accepted CheckFault) → law_of text ≡ Ok (law, rest) → m ≡ law_meaning law → r ≡ case_judged m rest
-    → r ≡ judged text
+pub law_read : (text : List ℕ) (m : Meaning) (rest : List ℕ) (r : Result Accepted CheckFault) → Ok (m, rest) ≡ controller_of text → r ≡ case_judged m rest → r ≡ judged text
 unfolding judged
-law_read text law rest m r e f g =
-    g ∙ ap (λ t. case_judged t rest) f ∙ sym (ap (λ x. bind (of_law x) (λ p. case_judged (law_meaning p.0) p.1)) e)
+law_read text m rest r e g =
+    let k = controller_read text m rest e in
+    g ∙ ap (λ t. case_judged t rest) k.2 ∙ sym (ap (λ x. bind (of_law x) (λ p. case_judged (law_meaning p.0) p.1)) k.1)
 
 -- A case text.
 

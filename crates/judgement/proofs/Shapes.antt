@@ -1,27 +1,18 @@
 -- The rows of a case text that keeps its limits have their lengths, and the bounds of its states are in range.
-use Rattle.std.proofs.Common.{◌≡◌, ℕ, ◌+◌, ◌≤◌, List, [], ◌∷◌, length, get_or, take, drop, replicate, ℤ, pos, sym, refl, ◌∙◌, arith}
+use Rattle.std.proofs.Common.{◌≡◌, ℕ, ◌+◌, ◌≤◌, List, [], ◌∷◌, length, get_or, take, drop, ℤ, pos, sym, refl, ◌∙◌, arith}
 use Rattle.std.specs.List.{AllByRecursion}
 use Rattle.std.proofs.ByRecursion.{All-map, All-weaker}
-use Rattle.std.proofs.lemmas.List.{length-append, length-drop, length-map, length-replicate, length-take-le}
-use Rattle.text.proofs.Forming.{fit_length}
-use Rattle.case.specs.Fields.{around, state_limits, dynamics_limits, extra_limits}
-use Rattle.case.specs.Forms.{RowKept, CaseKept, sizes_from}
-use Rattle.case.specs.Limits.{entry_limit, extra_limit}
+use Rattle.std.proofs.lemmas.List.{length-drop, length-map, length-take-le}
+use Rattle.case.proofs.Storing.{dynamics_long, extra_long}
+use Rattle.case.specs.Fields.{state_limits, dynamics_limits, extra_limits}
+use Rattle.case.specs.Forms.{RowKept, GoodState, AnyRow, CaseKept, sizes_from}
 use Rattle.case.specs.Stored.{equation_from, equations_from, bounds_from, extra_from, case_values}
 use Rattle.case.specs.Texts.{CaseText}
 use Rattle.case.specs.Values.{CaseValues, state_count, push_count}
-use Rattle.case.specs.declared.sections.Judge.TheVariants.{Nothing, State}
 use Rattle.case.proofs.Storing.{count_is}
+use Rattle.case.proofs.Stored.{RangeOk}
 use Rattle.certificate.proofs.Soundness.{Shaped}
 use Rattle.system.proofs.Rows.{EquationWide}
-use Rattle.system.proofs.Stored.{RangeOk}
-
-dynamics_long : (w : ℕ) (d : List ℤ) → RowKept (dynamics_limits w) Nothing d → w ≤ length d
-dynamics_long w d k = omega (arith, fit_length (dynamics_limits w) d k.0, length-replicate w (around entry_limit))
-
-extra_long : (n : ℕ) (row : List ℤ) → RowKept (extra_limits n) Nothing row → n ≤ length row
-extra_long n row k =
-    omega (arith, fit_length (extra_limits n) row k.0, length-append (replicate n (around entry_limit)) (around extra_limit ∷ []), length-replicate n (around entry_limit))
 
 part_long : (f c : ℕ) (d : List ℤ) → f + c ≤ length d → length (take c (drop f d)) ≡ c
 part_long f c d h = length-take-le c (drop f d) (omega (arith, length-drop f d))
@@ -39,12 +30,12 @@ module _ (k : CaseValues) (n m p : ℕ) (n_is : state_count k ≡ n) (m_is : k.i
   equations_wide (s ∷ ss) [] h = tt
   equations_wide (s ∷ ss) (d ∷ ds) h = (equation_wide s d h.0, equations_wide ss ds h.1)
 
-state_range : (D : ℤ) (s : List ℤ) → RowKept state_limits (State D) s → RangeOk (get_or s 0 (pos 0)) (get_or s 1 (pos 0))
+state_range : (D : ℤ) (s : List ℤ) → RowKept state_limits (GoodState D) s → RangeOk (get_or s 0 (pos 0)) (get_or s 1 (pos 0))
 state_range D [] k = absurd k.0
 state_range D (l ∷ []) k = absurd k.0.2
 state_range D (l ∷ h ∷ s) k = record { low_small = (k.0.0, k.0.1); high_small = (k.0.2.0, k.0.2.1) }
 
-state_ranges : (n m p : ℕ) (D : ℤ) (ss ds : List (List ℤ)) → AllByRecursion (RowKept state_limits (State D)) ss → AllByRecursion (λ s. RangeOk s.low s.high) (equations_from n m p ss ds)
+state_ranges : (n m p : ℕ) (D : ℤ) (ss ds : List (List ℤ)) → AllByRecursion (RowKept state_limits (GoodState D)) ss → AllByRecursion (λ s. RangeOk s.low s.high) (equations_from n m p ss ds)
 state_ranges n m p D [] ds h = tt
 state_ranges n m p D (s ∷ ss) [] h = tt
 state_ranges n m p D (s ∷ ss) (d ∷ ds) h = (state_range D s h.0, state_ranges n m p D ss ds h.1)
@@ -58,9 +49,9 @@ kept_shaped t h =
     record {
       wide = record {
         equations_wide = equations_wide k n t.inputs (length t.pushes) states_are refl (length-map t.pushes bounds_from) t.states t.dynamics
-            (All-weaker (RowKept (dynamics_limits w) Nothing) (λ d. w ≤ length d) (dynamics_long w) t.dynamics h.each_dynamics);
+            (All-weaker (RowKept (dynamics_limits w) AnyRow) (λ d. w ≤ length d) (dynamics_long w) t.dynamics h.each_dynamics);
         extra_wide = All-map (λ f. length f.coefficients ≡ state_count k) (extra_from n) t.extras
-            (All-weaker (RowKept (extra_limits n) Nothing) (λ row. length (take n row) ≡ state_count k) (λ row e. length-take-le n row (extra_long n row e) ∙ sym states_are) t.extras h.each_extra);
+            (All-weaker (RowKept (extra_limits n) AnyRow) (λ row. length (take n row) ≡ state_count k) (λ row e. length-take-le n row (extra_long n row e) ∙ sym states_are) t.extras h.each_extra);
       };
       ranges = state_ranges n t.inputs (length t.pushes) t.divisor t.states t.dynamics h.each_state;
     }

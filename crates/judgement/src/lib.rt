@@ -12,8 +12,7 @@ use checking::check;
 use checking::faults::CheckFault;
 use control::Controller;
 use laws::law::Law;
-use laws::reading::read_law;
-use laws::table::LawTable;
+use laws::reading::read_controller;
 use report::verdict::Verdict;
 
 // How many regions and faces an accepted text has.
@@ -43,12 +42,8 @@ pub fn judge_text(text: &[u8]) -> Result<Accepted, CheckFault>
     ensures form { AcceptedForm text.now }
     ensures sound { AcceptedSound text.now }
 {
-    let mut table = LawTable::Fixed([0, 0]);
-    let (states, inputs, rest) = read_law(text, &mut table)?;
-    match Law::new(states, inputs, &table) {
-        Some(law) => judge_case(&law, rest),
-        None => unreachable(),
-    }
+    let (law, rest) = read_controller(text)?;
+    judge_case(&law, rest)
 }
 
 // The verdict on a law text with a case text directly after it.
@@ -62,6 +57,6 @@ pub fn verdict_of(text: &[u8]) -> Verdict
             regions: accepted.regions,
             faces: accepted.faces,
         },
-        Err(fault) => Verdict::Refused(fault.report()),
+        Err(fault) => Verdict::Refused(fault.into()),
     }
 }

@@ -33,7 +33,7 @@ const SECOND: Input = Input {
 #[derive(Debug, Drop)]
 struct Refused;
 
-// The number of the cause of a refusal, or 0.
+// The number of the cause of a refusal, or 0, which no cause has.
 fn cause<T: Drop>(answer: Result<T, ControlFault>) -> u32 {
     match answer {
         Ok(_) => 0,

@@ -1,6 +1,5 @@
 -- The second line of a law text.
-use Rattle.std.proofs.Common.{◌≡◌, ℕ, ◌≤◌, List, [], ◌∷◌, get_or, ℤ, pos, negsuc, nat_abs, ◌≤ℤ◌, Some, None, Ok, Err, Option, Result, sym, ap, ◌∙◌, arith}
-use Rattle.std.proofs.lemmas.Int.{ints}
+use Rattle.std.proofs.Common.{◌≡◌, ℕ, List, [], ◌∷◌, get_or, ℤ, pos, nat_abs, ◌≤ℤ◌, Some, Ok, Err, Option, Result, sym, ap, ◌∙◌, arith}
 use Rattle.text.specs.Bytes.{line_feed}
 use Rattle.text.specs.Forms.{Fit}
 use Rattle.text.specs.Lines.{bind, cut_at, next_field, after_field, numbers_of, row_of, padded}
@@ -8,7 +7,7 @@ use Rattle.text.specs.declared.faults.TextFault.{TextFault}
 use Rattle.text.proofs.Forming.{bind_ok, ok_same, numbers_fit}
 use Rattle.laws.specs.Laws.{as_law, kind_at, head_by, head_cut, head_line, size_at}
 use Rattle.laws.specs.Limits.{sizes_limits}
-use Rattle.laws.specs.declared.faults.LawFault.TheVariants.{Text, Word}
+use Rattle.laws.specs.declared.faults.LawFault.TheVariants.{Text}
 use Rattle.laws.specs.declared.table.LawKind.{LawKind}
 
 -- both sizes, within their limits
@@ -45,10 +44,6 @@ sizes_are sizes left e =
     let b = bind_ok (numbers_of 2 2 sizes_limits left) (λ zs. Ok (padded zs)) sizes (sym e) in
     (b.0, by_fit b.0 sizes left b.1 (sym (ok_same (padded b.0) sizes b.2)) (numbers_fit 2 2 sizes_limits left b.0 b.1))
 
-pub size_small : (z : ℤ) (k : ℕ) → pos 1 ≤ℤ z → z ≤ℤ pos k → (1 ≤ nat_abs z) × (nat_abs z ≤ k)
-size_small (pos n) k l h = (omega (arith, ints), omega (arith, ints))
-size_small (negsuc n) k l h = absurd (omega (arith, ints))
-
 head_at : (text bytes rest : List ℕ) (kind : LawKind) (left : Option (List ℕ))
     → Some (bytes, rest) ≡ cut_at line_feed text → Some kind ≡ kind_at (next_field (Some bytes)) → left ≡ after_field (Some bytes)
     → bind (as_law (numbers_of 2 2 sizes_limits left)) (λ zs. Ok (record { kind = kind; states = size_at zs 0; inputs = size_at zs 1 }, rest)) ≡ head_line text
@@ -59,12 +54,6 @@ head_at text bytes rest kind left c k l =
 row_err : (r : Result (List ℤ) TextFault) (e : TextFault) → Err e ≡ bind r (λ zs. Ok (padded zs)) → r ≡ Err e
 row_err (Ok zs) e h = grind arith
 row_err (Err d) e h = let k : d ≡ e = cc in ap Err k
-
-pub head_absent : (text : List ℕ) → None ≡ cut_at line_feed text → head_cut None ≡ head_line text
-head_absent text c = ap head_cut c
-
-pub head_word : (text bytes rest : List ℕ) → Some (bytes, rest) ≡ cut_at line_feed text → None ≡ kind_at (next_field (Some bytes)) → Err (Word 2) ≡ head_line text
-head_word text bytes rest c k = ap (λ o. head_by o (after_field (Some bytes)) rest) k ∙ ap head_cut c
 
 pub head_err : (text bytes rest : List ℕ) (kind : LawKind) (left : Option (List ℕ)) (e : TextFault)
     → Some (bytes, rest) ≡ cut_at line_feed text → Some kind ≡ kind_at (next_field (Some bytes)) → left ≡ after_field (Some bytes)

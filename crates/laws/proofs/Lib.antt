@@ -1,4 +1,3 @@
-pub mod Collecting
 pub mod Composing
 pub mod Heading
 pub mod Making

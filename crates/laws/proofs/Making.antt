@@ -1,45 +1,45 @@
 -- What is read keeps the limits of its controller, and means what its values mean.
-use Rattle.std.proofs.Common.{◌≡◌, ℕ, zero, suc, ◌+◌, ◌-◌, ◌≤◌, true, ◌&&◌, leb, List, [], ◌∷◌, ◌++◌, map, length, get_or, take, drop, replicate, ℤ, pos, neg_ℤ, ◌≤ℤ◌, sym, refl, ap, ◌∙◌, arith}
+use Rattle.std.proofs.Common.{◌≡◌, ℕ, zero, suc, ◌+◌, ◌-◌, ◌≤◌, true, ◌&&◌, leb, List, [], ◌∷◌, ◌++◌, map, length, get_or, take, drop, replicate, ℤ, pos, ◌≤ℤ◌, Ok, Err, Result, sym, refl, ap, ◌∙◌, arith}
 use lib.Signed.{le_z}
 use Rattle.std.specs.List.{AllByRecursion}
 use Rattle.std.proofs.lemmas.List.{length-append, length-replicate, length-take-le, get_or-drop, take-append-le}
 use Rattle.std.proofs.lemmas.Int.{ints}
 use Rattle.std.proofs.lemmas.Bool.{and_from, le-leb, eq-eqb}
+use Rattle.arith.proofs.Bounds.{test_from_within}
 use Rattle.arith.specs.Bounds.{within, all_within}
 use Rattle.control.specs.Fixed.{fixed_ok}
 use Rattle.control.specs.Limits.{most_states, most_inputs, sizes_ok, setting_limit}
 use Rattle.control.specs.Saturated.{gain_limit, offset_limit, most_divisor, input_ok, inputs_ok, saturated_ok}
 use Rattle.control.proofs.Outcomes.{sizes_pass}
 use Rattle.text.specs.Forms.{Fit}
-use Rattle.text.specs.Lines.{padded, row_width}
+use Rattle.text.specs.Lines.{bind, padded, row_width}
 use Rattle.text.specs.declared.number.Limit.{Limit}
-use Rattle.text.proofs.Forming.{fit_length}
-use Rattle.laws.specs.Controllers.{saturated_law, fixed_law, table_ok, table_meaning, values_meaning}
+use Rattle.text.proofs.Forming.{bind_ok, fit_length, ok_same}
+use Rattle.laws.specs.Controllers.{saturated_law, fixed_law, table_ok, table_meaning, values_meaning, law_meaning, controller_of}
+use Rattle.laws.specs.Laws.{LawText, law_of}
+use Rattle.control.specs.Meaning.{Meaning}
+use Rattle.laws.specs.declared.faults.LawFault.{LawFault}
+use Rattle.laws.specs.declared.table.LawTable.{LawTable}
+use Rattle.laws.proofs.Composing.{known}
 use Rattle.laws.specs.Forms.{LawMeant, RowKept}
 use Rattle.laws.specs.Limits.{around, from_to, row_limits}
-use Rattle.laws.specs.Tables.{input_of, stored_rows, table_of}
+use Rattle.laws.specs.Tables.{input_of, stored_rows, table_of, answer_of, place_after}
 use Rattle.laws.specs.declared.table.LawKind.{LawKind}
 use Rattle.laws.specs.declared.table.LawKind.TheVariants.{Saturated, Fixed}
 use Rattle.laws.proofs.Rendering.{law_to}
-use Rattle.laws.proofs.Storing.{padding}
+use Rattle.text.proofs.Padding.{padding}
 
 -- Numbers within limits.
 
-within_at : (m : ℕ) (z : ℤ) → neg_ℤ (pos m) ≤ℤ z → z ≤ℤ pos m → within m z ≡ true
-within_at m z lo hi =
-    let a : le_z (neg_ℤ (pos m)) z ≡ true = grind (arith, ints) in
-    let b : le_z z (pos m) ≡ true = grind (arith, ints) in
-    and_from (le_z (neg_ℤ (pos m)) z) (le_z z (pos m)) a b
-
 zeros_within : (m k : ℕ) → all_within m (replicate k (pos 0)) ≡ true
 zeros_within m zero = refl
-zeros_within m (suc k) = and_from (within m (pos 0)) _ (within_at m (pos 0) (omega (arith, ints)) (omega (arith, ints))) (zeros_within m k)
+zeros_within m (suc k) = and_from (within m (pos 0)) _ (test_from_within m (pos 0) (omega (arith, ints)) (omega (arith, ints))) (zeros_within m k)
 
 -- the first k numbers lie within the limit of each of them
 front_within : (m k j : ℕ) (ls : List Limit) (zs : List ℤ) → Fit (replicate k (around m) ++ ls) zs → all_within m (take k zs ++ replicate j (pos 0)) ≡ true
 front_within m zero j ls zs f = zeros_within m j
 front_within m (suc k) j ls [] f = absurd f
-front_within m (suc k) j ls (z ∷ zs) f = and_from (within m z) _ (within_at m z f.0 f.1) (front_within m k j ls zs f.2)
+front_within m (suc k) j ls (z ∷ zs) f = and_from (within m z) _ (test_from_within m z f.0 f.1) (front_within m k j ls zs f.2)
 
 -- and the others keep theirs
 back_fit : (l : Limit) (k : ℕ) (ls : List Limit) (zs : List ℤ) → Fit (replicate k l ++ ls) zs → Fit ls (drop k zs)
@@ -70,10 +70,10 @@ tail_kept (o ∷ q ∷ l ∷ h ∷ zs) f =
     let a : le_z (pos 1) q ≡ true = grind (arith, ints) in
     let b : le_z q (pos most_divisor) ≡ true = grind (arith, ints) in
     record {
-      offset = within_at offset_limit o f.0 f.1;
+      offset = test_from_within offset_limit o f.0 f.1;
       divisor = and_from (le_z (pos 1) q) (le_z q (pos most_divisor)) a b;
-      low = within_at setting_limit l f.2.2.0 f.2.2.1;
-      high = within_at setting_limit h f.2.2.2.0 f.2.2.2.1;
+      low = test_from_within setting_limit l f.2.2.0 f.2.2.1;
+      high = test_from_within setting_limit h f.2.2.2.0 f.2.2.2.1;
     }
 
 tail_at : (n : ℕ) (zs : List ℤ) → Fit tail_limits (drop n zs) → Tail (get_or zs n (pos 0)) (get_or zs (n + 1) (pos 0)) (get_or zs (n + 2) (pos 0)) (get_or zs (n + 3) (pos 0))
@@ -148,7 +148,7 @@ inputs_kept n (row ∷ rows) le k = and_from (input_ok (input_of n row)) _ (inpu
 
 command_kept : (row : List ℤ) (n : ℕ) → RowKept Fixed n row → within setting_limit (get_or row 0 (pos 0)) ≡ true
 command_kept [] n k = absurd k.0
-command_kept (u ∷ row) n k = within_at setting_limit u k.0.0 k.0.1
+command_kept (u ∷ row) n k = test_from_within setting_limit u k.0.0 k.0.1
 
 commands_kept : (n : ℕ) (rows : List (List ℤ)) → AllByRecursion (RowKept Fixed n) rows → all_within setting_limit (map (λ row. get_or row 0 (pos 0)) rows) ≡ true
 commands_kept n [] k = refl
@@ -182,3 +182,41 @@ unfolding LawMeant
 law_meant text law rest e =
     let k = (law_to text law rest e).1 in
     by_kind law.kind law.states law.rows k.states_low k.states_high k.inputs_low k.inputs_high k.each
+
+-- The controller that a law text is read as.
+
+-- what is known once a law text is read
+pub record Meant (text : List ℕ) (n m : ℕ) (rest : List ℕ) (table : LawTable) : Type 0 where
+  pub law : LawText
+  pub was : law_of text ≡ Ok (law, rest)
+  pub ok : table_ok n m table ≡ true
+  pub meaning_is : table_meaning n m table ≡ law_meaning law
+
+pub meant : (text : List ℕ) (n m : ℕ) (rest : List ℕ) (old table : LawTable) → Ok (n, m, rest) ≡ answer_of (law_of text) → table ≡ place_after old (law_of text) → Meant text n m rest table
+unfolding LawMeant
+meant text n m rest old table e t =
+    let k = known (law_of text) n m rest old table e t in
+    let g = law_meant text k.law rest k.was in
+    record {
+      law = k.law;
+      was = k.was;
+      ok = ap (λ i. table_ok i m table) k.states_are ∙ ap (λ i. table_ok k.law.states i table) k.inputs_are ∙ ap (table_ok k.law.states (length k.law.rows)) k.table_is ∙ g.0;
+      meaning_is = ap (λ i. table_meaning i m table) k.states_are ∙ ap (λ i. table_meaning k.law.states i table) k.inputs_are ∙ ap (table_meaning k.law.states (length k.law.rows)) k.table_is ∙ g.1;
+    }
+
+-- the law that a controller was read from, and the refusal
+abbrev meant_by : LawText × List ℕ → Result (Meaning × List ℕ) LawFault
+meant_by p = Ok (law_meaning p.0, p.1)
+
+pub controller_read : (text : List ℕ) (m : Meaning) (rest : List ℕ) → Ok (m, rest) ≡ controller_of text → (law : LawText) × (law_of text ≡ Ok (law, rest)) × (m ≡ law_meaning law)
+controller_read text m rest e =
+    let b = bind_ok (law_of text) meant_by (m, rest) (sym e) in
+    let s = ok_same (law_meaning b.0.0, b.0.1) (m, rest) b.2 in
+    (b.0.0, b.1 ∙ ap (λ t. Ok (b.0.0, t)) (ap (λ t. t.1) s), sym (ap (λ t. t.0) s))
+
+pub controller_refused : (text : List ℕ) (e : LawFault) → Err e ≡ controller_of text → law_of text ≡ Err e
+controller_refused text e h = by_law (law_of text) h
+  where
+    by_law : (r : Result (LawText × List ℕ) LawFault) → ◌≡◌ {A = Result (Meaning × List ℕ) LawFault} (Err e) (bind r meant_by) → r ≡ Err e
+    by_law (Ok p) f = grind arith
+    by_law (Err d) f = let k : d ≡ e = cc in ap Err k

@@ -1,43 +1,24 @@
 -- A law text is read exactly when it is rendered.
-use Rattle.std.proofs.Common.{◌≡◌, ℕ, zero, suc, ◌+◌, ◌<◌, ◌≤◌, Bool, true, false, cond, ◌&&◌, leb, List, [], ◌∷◌, ◌++◌, length, ℤ, pos, negsuc, nat_abs, ◌≤ℤ◌, Some, None, Ok, Err, Option, Result, sym, refl, ap, ◌∙◌, subst, arith}
-use Rattle.std.specs.List.{AllByRecursion}
+use Rattle.std.proofs.Common.{◌≡◌, ℕ, zero, suc, ◌+◌, ◌<◌, ◌≤◌, Bool, true, false, cond, List, [], ◌∷◌, ◌++◌, length, ℤ, pos, nat_abs, Some, None, Ok, Err, Option, Result, sym, refl, ap, ◌∙◌, subst, arith}
 use Rattle.std.specs.Str.{bytes_eq}
 use Rattle.std.proofs.ByRecursion.{All-append, All-weaker}
 use Rattle.std.proofs.lemmas.Slice.Eq.{bytes_eq-Decides}
 use Rattle.std.proofs.lemmas.Int.{ints}
-use Rattle.std.proofs.lemmas.Bool.{and_parts, and_from, leb-true, le-leb, cond-true, cond-false}
+use Rattle.std.proofs.lemmas.Bool.{cond-false}
 use Rattle.text.specs.Bytes.{space, line_feed}
 use Rattle.text.specs.Forms.{Fit}
-use Rattle.text.specs.Lines.{bind, size_of, text_limit, names_line, numbers_line, numbers_of, cut_at, first_field, next_field, after_field, place}
+use Rattle.text.specs.Lines.{bind, size_of, text_limit, names_line, numbers_of, cut_at, first_field, next_field, after_field, place}
 use Rattle.text.specs.Render.{fields_text, line_before}
-use Rattle.text.specs.declared.faults.TextFault.{TextFault}
-use Rattle.text.specs.declared.faults.TextFault.TheVariants.{Size}
-use Rattle.text.proofs.Forming.{Above, bind_ok, ok_same, cut_is, cut_front, fields_above, above_from_test, nothing_left, numbers_to, numbers_from, names_to, names_from, row_to, row_from}
-use Rattle.laws.specs.Forms.{LawForm, LawKept, RowKept, Ordered, rows_before, head_text, law_before}
-use Rattle.laws.specs.Laws.{LawText, Head, law_names, word_of, row_names, kind_of, kind_at, as_law, size_at, head_by, head_cut, head_line, misordered, ordered, row_line, rows_of, body_of, law_of}
+use Rattle.text.proofs.Collecting.{Accepts, told_ok, rows_length, rows_to, rows_from}
+use Rattle.text.proofs.Padding.{size_to, size_from, natural, count_low, count_high, from_one}
+use Rattle.text.proofs.Forming.{Above, bind_ok, ok_same, cut_is, cut_front, fields_above, above_from_test, nothing_left, numbers_to, numbers_from, names_to, names_from}
+use Rattle.laws.specs.Forms.{LawForm, LawKept, Ordered, rows_before, head_text, law_before}
+use Rattle.laws.specs.Laws.{LawText, Head, law_names, word_of, row_names, kind_of, kind_at, as_law, size_at, head_by, head_cut, head_line, misordered, ordered, rows_of, body_of, law_of}
 use Rattle.laws.specs.Limits.{row_limits, sizes_limits, states_limit, inputs_limit}
 use Rattle.laws.specs.declared.faults.LawFault.{LawFault}
-use Rattle.laws.specs.declared.faults.LawFault.TheVariants.{Order}
+use Rattle.laws.specs.declared.faults.LawFault.TheVariants.{Text, Order}
 use Rattle.laws.specs.declared.table.LawKind.{LawKind}
 use Rattle.laws.specs.declared.table.LawKind.TheVariants.{Saturated, Fixed}
-use Rattle.laws.proofs.Composing.{rows_length}
-use Rattle.laws.proofs.Heading.{size_small}
-
-as_law_ok : {X : Type 0} (r : Result X TextFault) (x : X) → as_law r ≡ Ok x → r ≡ Ok x
-as_law_ok (Ok y) x e = let k : y ≡ x = cc in ap Ok k
-as_law_ok (Err d) x e = grind arith
-
--- The size.
-
-size_to : (text : List ℕ) (u : Unit {0}) → size_of text ≡ Ok u → length text ≤ text_limit
-size_to text u e = by_test (leb 1 (length text) && leb (length text) text_limit) refl e
-  where
-    by_test : (t : Bool) → (leb 1 (length text) && leb (length text) text_limit) ≡ t → ◌≡◌ {A = Result (Unit {0}) TextFault} (cond t (Ok tt) (Err Size)) (Ok u) → length text ≤ text_limit
-    by_test true t f = leb-true _ _ (and_parts (leb 1 (length text)) (leb (length text) text_limit) t).1
-    by_test false t f = grind arith
-
-size_from : (text : List ℕ) → 1 ≤ length text → length text ≤ text_limit → size_of text ≡ Ok tt
-size_from text low high = cond-true _ _ _ (and_from (leb 1 (length text)) (leb (length text) text_limit) (le-leb _ _ low) (le-leb _ _ high))
 
 -- The second line.
 
@@ -66,23 +47,22 @@ pub record HeadKept (h : Head) : Type 0 where
   pub inputs_low : 1 ≤ h.inputs
   pub inputs_high : h.inputs ≤ 2
 
-natural : (z : ℤ) → pos 1 ≤ℤ z → z ≡ pos (nat_abs z)
-natural (pos n) h = refl
-natural (negsuc n) h = absurd (omega (arith, ints))
-
 sizes_text : (zs : List ℤ) → Fit sizes_limits zs → fields_text zs ≡ fields_text (pos (size_at zs 0) ∷ pos (size_at zs 1) ∷ [])
 sizes_text [] h = absurd h
 sizes_text (a ∷ []) h = absurd h.2
-sizes_text (a ∷ b ∷ []) h = ap (λ t. fields_text (t ∷ b ∷ [])) (natural a h.0) ∙ ap (λ t. fields_text (pos (nat_abs a) ∷ t ∷ [])) (natural b h.2.0)
+sizes_text (a ∷ b ∷ []) h = ap (λ t. fields_text (t ∷ b ∷ [])) (natural a (from_one a h.0)) ∙ ap (λ t. fields_text (pos (nat_abs a) ∷ t ∷ [])) (natural b (from_one b h.2.0))
 sizes_text (a ∷ b ∷ c ∷ zs) h = absurd h.2.2
 
 sizes_kept : (kind : LawKind) (zs : List ℤ) → Fit sizes_limits zs → HeadKept (record { kind = kind; states = size_at zs 0; inputs = size_at zs 1 })
 sizes_kept kind [] h = absurd h
 sizes_kept kind (a ∷ []) h = absurd h.2
 sizes_kept kind (a ∷ b ∷ []) h =
-    let n = size_small a 4 h.0 h.1 in
-    let m = size_small b 2 h.2.0 h.2.1 in
-    record { states_low = n.0; states_high = n.1; inputs_low = m.0; inputs_high = m.1 }
+    record {
+      states_low = count_low a h.0;
+      states_high = count_high a 4 (from_one a h.0) h.1;
+      inputs_low = count_low b h.2.0;
+      inputs_high = count_high b 2 (from_one b h.2.0) h.2.1;
+    }
 sizes_kept kind (a ∷ b ∷ c ∷ zs) h = absurd h.2.2
 
 -- the word and the sizes, by where the first space is
@@ -105,7 +85,7 @@ head_to_by text rest h (Some p) cut e = by_kind (kind_at (next_field (Some p.0))
     by_kind (Some kind) k f =
         let b = bind_ok (as_law (numbers_of 2 2 sizes_limits (after_field (Some p.0)))) (λ zs. Ok (record { kind = kind; states = size_at zs 0; inputs = size_at zs 1 }, p.1)) (h, rest) f in
         let zs = b.0 in
-        let n = as_law_ok (numbers_of 2 2 sizes_limits (after_field (Some p.0))) b.0 b.1 in
+        let n = told_ok Text (numbers_of 2 2 sizes_limits (after_field (Some p.0))) b.0 b.1 in
         let s = sizes_to kind p.0 b.0 (cut_at space p.0) (cut_is space p.0) k n in
         let g : Head = record { kind = kind; states = size_at b.0 0; inputs = size_at b.0 1 } in
         let q = ok_same (g, p.1) (h, rest) b.2 in
@@ -163,45 +143,11 @@ order_from : (kind : LawKind) (n : ℕ) (row : List ℤ) → Ordered kind n row 
 order_from Saturated n row h = grind (arith, ints)
 order_from Fixed n row h = refl
 
-line_to : (kind : LawKind) (n line : ℕ) (text : List ℕ) (row : List ℤ) (rest : List ℕ) → row_line kind n line text ≡ Ok (row, rest)
-    → (text ≡ line_before (fields_text row) rest) × RowKept kind n row
-line_to kind n line text row rest e =
-    let a = bind_ok (as_law (numbers_line line (row_limits kind n) text)) (λ p. bind (ordered kind n line p.0) (λ _. Ok p)) (row, rest) e in
-    let b = bind_ok (ordered kind n line a.0.0) (λ _. Ok a.0) (row, rest) a.2 in
-    let q = ok_same a.0 (row, rest) b.2 in
-    let l = as_law_ok (numbers_line line (row_limits kind n) text) a.0 a.1 in
-    let t = row_to line (row_limits kind n) text row rest (limits_some kind n) (l ∙ ap Ok q) in
-    let o = ordered_to kind n line row b.0 (ap (λ z. ordered kind n line z.0) (sym q) ∙ b.1) in
-    (t.0, (t.1, order_to kind n row o))
-
-line_from : (kind : LawKind) (n line : ℕ) (row : List ℤ) (rest : List ℕ) → RowKept kind n row → row_line kind n line (line_before (fields_text row) rest) ≡ Ok (row, rest)
-line_from kind n line row rest k =
-    ap (λ r. bind (as_law r) (λ p. bind (ordered kind n line p.0) (λ _. Ok p))) (row_from line (row_limits kind n) row rest (limits_some kind n) k.0)
-    ∙ ap (λ r. bind r (λ _. Ok (row, rest))) (cond-false _ _ _ (order_from kind n row k.1))
-
-rows_to : (kind : LawKind) (n k line : ℕ) (text : List ℕ) (rows : List (List ℤ)) (rest : List ℕ) → rows_of kind n k line text ≡ Ok (rows, rest)
-    → (text ≡ rows_before rows rest) × AllByRecursion (RowKept kind n) rows
-rows_to kind n zero line text rows rest e =
-    let q = ok_same ([], text) (rows, rest) e in
-    let r : [] ≡ rows = ap (λ t. t.0) q in
-    let s : text ≡ rest = ap (λ t. t.1) q in
-    rw (← r) (s, tt)
-rows_to kind n (suc k) line text rows rest e =
-    let a = bind_ok (row_line kind n line text) (λ p. bind (rows_of kind n k (line + 1) p.1) (λ q. Ok (p.0 ∷ q.0, q.1))) (rows, rest) e in
-    let b = bind_ok (rows_of kind n k (line + 1) a.0.1) (λ q. Ok (a.0.0 ∷ q.0, q.1)) (rows, rest) a.2 in
-    let q = ok_same (a.0.0 ∷ b.0.0, b.0.1) (rows, rest) b.2 in
-    let l = line_to kind n line text a.0.0 a.0.1 a.1 in
-    let i = rows_to kind n k (line + 1) a.0.1 b.0.0 b.0.1 b.1 in
-    let r : a.0.0 ∷ b.0.0 ≡ rows = ap (λ t. t.0) q in
-    let s : b.0.1 ≡ rest = ap (λ t. t.1) q in
-    rw (← r) (l.0 ∙ ap (line_before (fields_text a.0.0)) (i.0 ∙ ap (rows_before b.0.0) s), (l.1, i.1))
-
-rows_from : (kind : LawKind) (n line : ℕ) (rows : List (List ℤ)) (rest : List ℕ) → AllByRecursion (RowKept kind n) rows
-    → rows_of kind n (length rows) line (rows_before rows rest) ≡ Ok (rows, rest)
-rows_from kind n line [] rest k = refl
-rows_from kind n line (row ∷ rows) rest k =
-    ap (λ r. bind r (λ p. bind (rows_of kind n (length rows) (line + 1) p.1) (λ q. Ok (p.0 ∷ q.0, q.1)))) (line_from kind n line row (rows_before rows rest) k.0)
-    ∙ ap (λ r. bind r (λ q. Ok (row ∷ q.0, q.1))) (rows_from kind n (line + 1) rows rest k.1)
+accepts : (kind : LawKind) (n : ℕ) → Accepts (ordered kind n) (Ordered kind n)
+accepts kind n = record {
+  to = λ line row u e. order_to kind n row (ordered_to kind n line row u e);
+  from = λ line row h. cond-false _ _ _ (order_from kind n row h);
+}
 
 -- The whole.
 
@@ -213,10 +159,10 @@ body_to : (h : Head) (text : List ℕ) (law : LawText) (rest : List ℕ) → Hea
     → (line_before (headed h) text ≡ line_before (head_text law) (line_before (row_names law.kind) (rows_before law.rows rest))) × LawKept law
 body_to h text law rest k e =
     let a = bind_ok (as_law (names_line 3 (row_names h.kind) text)) (λ r. bind (rows_of h.kind h.states h.inputs 4 r) (λ p. Ok (record { kind = h.kind; states = h.states; rows = p.0 }, p.1))) (law, rest) e in
-    let n = names_to 3 (row_names h.kind) text a.0 (as_law_ok _ a.0 a.1) in
+    let n = names_to 3 (row_names h.kind) text a.0 (told_ok Text _ a.0 a.1) in
     let b = bind_ok (rows_of h.kind h.states h.inputs 4 a.0) (λ p. Ok (record { kind = h.kind; states = h.states; rows = p.0 }, p.1)) (law, rest) a.2 in
-    let r = rows_to h.kind h.states h.inputs 4 a.0 b.0.0 b.0.1 b.1 in
-    let l : length b.0.0 ≡ h.inputs = rows_length h.kind h.states h.inputs 4 a.0 b.0 b.1 in
+    let r = rows_to Text (accepts h.kind h.states) (row_limits h.kind h.states) (limits_some h.kind h.states) h.inputs 4 a.0 b.0.0 b.0.1 b.1 in
+    let l : length b.0.0 ≡ h.inputs = rows_length Text (ordered h.kind h.states) (row_limits h.kind h.states) h.inputs 4 a.0 b.0 b.1 in
     let made : LawText = record { kind = h.kind; states = h.states; rows = b.0.0 } in
     let q = ok_same (made, b.0.1) (law, rest) b.2 in
     let w : made ≡ law = ap (λ t. t.0) q in
@@ -240,17 +186,17 @@ body_from : (law : LawText) (rest : List ℕ) → LawKept law
 body_from law rest k =
     ap (λ r. bind (as_law r) (λ t. bind (rows_of law.kind law.states (length law.rows) 4 t) (λ p. Ok (record { kind = law.kind; states = law.states; rows = p.0 }, p.1))))
     (names_plain law.kind 3 (rows_before law.rows rest))
-    ∙ ap (λ r. bind r (λ p. Ok (record { kind = law.kind; states = law.states; rows = p.0 }, p.1))) (rows_from law.kind law.states 4 law.rows rest k.each)
+    ∙ ap (λ r. bind r (λ p. Ok (record { kind = law.kind; states = law.states; rows = p.0 }, p.1))) (rows_from Text (accepts law.kind law.states) (row_limits law.kind law.states) (limits_some law.kind law.states) 4 law.rows rest k.each)
 
 pub law_to : (text : List ℕ) (law : LawText) (rest : List ℕ) → law_of text ≡ Ok (law, rest) → (text ≡ law_before law rest) × LawKept law × (length text ≤ text_limit)
 law_to text law rest e =
     let a = bind_ok (as_law (size_of text)) (λ _. bind (as_law (names_line 1 law_names text)) (λ r. bind (head_line r) (λ h. body_of h.0 h.1))) (law, rest) e in
     let b = bind_ok (as_law (names_line 1 law_names text)) (λ r. bind (head_line r) (λ h. body_of h.0 h.1)) (law, rest) a.2 in
-    let n = names_to 1 law_names text b.0 (as_law_ok _ b.0 b.1) in
+    let n = names_to 1 law_names text b.0 (told_ok Text _ b.0 b.1) in
     let d = bind_ok (head_line b.0) (λ h. body_of h.0 h.1) (law, rest) b.2 in
     let h = head_to b.0 d.0.1 d.0.0 d.1 in
     let y = body_to d.0.0 d.0.1 law rest h.1 d.2 in
-    (n ∙ ap (line_before law_names) (h.0 ∙ y.0), y.1, size_to text a.0 (as_law_ok _ a.0 a.1))
+    (n ∙ ap (line_before law_names) (h.0 ∙ y.0), y.1, size_to text a.0 (told_ok Text _ a.0 a.1))
 
 law_from : (law : LawText) (rest : List ℕ) → LawKept law → length (law_before law rest) ≤ text_limit → law_of (law_before law rest) ≡ Ok (law, rest)
 law_from law rest k small =

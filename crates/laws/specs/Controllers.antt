@@ -1,12 +1,17 @@
 -- The controller that a law text means.
-use Rattle.std.specs.Prelude.{ℕ, Bool, ◌&&◌, List, map, length, take, ℤ, pos, nat_le, slice_index_or}
+use Rattle.std.specs.Prelude.{ℕ, Bool, ◌&&◌, List, map, length, take, ℤ, pos, Ok, Err, Result, nat_le, slice_index_or}
+use Rattle.std.specs.Borrow.{Bor}
 use Rattle.control.specs.Fixed.{fixed_ok, fixed_partition}
+use Rattle.control.specs.Held.{inputs_of}
 use Rattle.control.specs.Limits.{most_inputs}
 use Rattle.control.specs.Meaning.{Meaning, meaning}
+use Rattle.control.specs.PerInput.{items}
 use Rattle.control.specs.Saturated.{saturated_ok, saturated_partition, saturated_command}
 use Rattle.control.specs.declared.input.Input.{Input}
-use Rattle.laws.specs.Laws.{LawText}
+use Rattle.text.specs.Lines.{bind}
+use Rattle.laws.specs.Laws.{LawText, law_of}
 use Rattle.laws.specs.Tables.{input_of}
+use Rattle.laws.specs.declared.faults.LawFault.{LawFault}
 use Rattle.laws.specs.declared.law.Law.{Law}
 use Rattle.laws.specs.declared.law.Law.TheVariants.{Saturated as OfSaturated, Fixed as OfFixed}
 use Rattle.laws.specs.declared.table.LawKind.{LawKind}
@@ -23,8 +28,8 @@ fixed_law n us = meaning n (length us) (fixed_partition n us) (λ _. us)
 
 -- what a law of either make means
 abbrev pub controlled : Law → Meaning
-controlled (OfSaturated s) = meaning s.states s.count (saturated_partition s.states (take s.count s.inputs)) (saturated_command s.states (take s.count s.inputs))
-controlled (OfFixed f) = meaning f.states f.inputs (fixed_partition f.states (take f.inputs f.commands)) (λ _. take f.inputs f.commands)
+controlled (OfSaturated s) = saturated_law s.states.count (inputs_of s.inputs)
+controlled (OfFixed f) = fixed_law f.states.count (items f.commands)
 
 -- what n states, m inputs and a table mean, and whether they keep the limits
 abbrev pub table_meaning : ℕ → ℕ → LawTable → Meaning
@@ -42,3 +47,11 @@ values_meaning Fixed n rows = fixed_law n (map (λ row. slice_index_or row 0 (po
 
 abbrev pub law_meaning : LawText → Meaning
 law_meaning law = values_meaning law.kind law.states law.rows
+
+-- a law text read as a controller: what it means, and the rest of the text
+abbrev pub controller_of : List ℕ → Result (Meaning × List ℕ) LawFault
+controller_of text = bind (law_of text) (λ p. Ok (law_meaning p.0, p.1))
+
+abbrev pub controller_told : Result (Law × Bor (List ℕ)) LawFault → Result (Meaning × List ℕ) LawFault
+controller_told (Ok p) = Ok (controlled p.0, p.1.now)
+controller_told (Err e) = Err e

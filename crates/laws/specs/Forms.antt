@@ -1,8 +1,10 @@
 -- The form of a law text, said by rendering.
 use Rattle.std.specs.Prelude.{◌≡◌, ℕ, ◌+◌, ◌≤◌, true, List, [], ◌∷◌, ◌++◌, length, ℤ, pos, ◌≤ℤ◌, Ok, slice_index_or}
 use Rattle.std.specs.List.{AllByRecursion}
+pub use Rattle.text.specs.Blocks.{rows_before}
+use Rattle.text.specs.Blocks as blocks
 use Rattle.text.specs.Bytes.{space}
-use Rattle.text.specs.Forms.{Iff, Fit}
+use Rattle.text.specs.Forms.{Iff}
 use Rattle.text.specs.Lines.{text_limit}
 use Rattle.text.specs.Render.{fields_text, line_before}
 use Rattle.laws.specs.Controllers.{table_ok, table_meaning, law_meaning}
@@ -11,11 +13,6 @@ use Rattle.laws.specs.Limits.{row_limits}
 use Rattle.laws.specs.Tables.{stored}
 use Rattle.laws.specs.declared.table.LawKind.{LawKind}
 use Rattle.laws.specs.declared.table.LawKind.TheVariants.{Saturated, Fixed}
-
--- lines of numbers before the rest of a text
-abbrev pub rows_before : List (List ℤ) → List ℕ → List ℕ
-rows_before [] rest = rest
-rows_before (row ∷ rows) rest = line_before (fields_text row) (rows_before rows rest)
 
 -- the law word and both sizes
 abbrev pub head_text : LawText → List ℕ
@@ -31,7 +28,7 @@ Ordered Fixed n row = Unit {0}
 
 -- each number within its limit, and low not above high
 abbrev pub RowKept : LawKind → ℕ → List ℤ → Type 0
-RowKept kind n row = Fit (row_limits kind n) row × Ordered kind n row
+RowKept kind n row = blocks.RowKept (row_limits kind n) (Ordered kind n) row
 
 pub record LawKept (law : LawText) : Type 0 where
   pub states_low : 1 ≤ law.states

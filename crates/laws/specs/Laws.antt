@@ -1,8 +1,11 @@
 -- What reading a law text gives, and the first fault in reading it from the front.
-use Rattle.std.specs.Prelude.{ℕ, zero, suc, ◌+◌, Bool, false, cond, List, [], ◌∷◌, ℤ, pos, Some, None, Ok, Err, codes, Option, Result, int_lt, slice_index_or, unsigned_abs}
+use Rattle.std.specs.Prelude.{ℕ, ◌+◌, Bool, false, cond, List, ℤ, pos, Some, None, Ok, Err, codes, Option, Result, int_lt, slice_index_or}
 use Rattle.std.specs.Str.{bytes_eq}
+use Rattle.text.specs.Blocks.{told_as}
+pub use Rattle.text.specs.Blocks.{size_at}
+use Rattle.text.specs.Blocks as blocks
 use Rattle.text.specs.Bytes.{line_feed}
-use Rattle.text.specs.Lines.{bind, size_of, names_line, numbers_of, numbers_line, cut_at, next_field, after_field, place}
+use Rattle.text.specs.Lines.{bind, size_of, names_line, numbers_of, cut_at, next_field, after_field, place}
 use Rattle.text.specs.declared.faults.TextFault.{TextFault}
 use Rattle.text.specs.declared.faults.TextFault.TheVariants.{Line}
 use Rattle.laws.specs.Limits.{sizes_limits, row_limits}
@@ -37,17 +40,13 @@ kind_at (Some bs) = kind_of bs
 
 -- a fault of the text is a fault of the law
 abbrev pub as_law : {X : Type 0} → Result X TextFault → Result X LawFault
-as_law (Ok x) = Ok x
-as_law (Err e) = Err (Text e)
+as_law = told_as Text
 
 -- kind, states and inputs
 pub record Head : Type 0 where
   pub kind : LawKind
   pub states : ℕ
   pub inputs : ℕ
-
-abbrev pub size_at : List ℤ → ℕ → ℕ
-size_at zs i = unsigned_abs (slice_index_or zs i (pos 0))
 
 -- the law word is judged before the sizes behind it
 abbrev pub head_by : Option LawKind → Option (List ℕ) → List ℕ → Result (Head × List ℕ) LawFault
@@ -71,16 +70,9 @@ misordered Fixed n zs = false
 abbrev pub ordered : LawKind → ℕ → ℕ → List ℤ → Result (Unit {0}) LawFault
 ordered kind n line zs = cond (misordered kind n zs) (Err (Order (place line (n + 4)))) (Ok tt)
 
--- the line of one input, and the text after it
-abbrev pub row_line : LawKind → ℕ → ℕ → List ℕ → Result (List ℤ × List ℕ) LawFault
-row_line kind n line text =
-    bind (as_law (numbers_line line (row_limits kind n) text)) (λ p. bind (ordered kind n line p.0) (λ _. Ok p))
-
 -- the lines of k inputs, and the text after them
 abbrev pub rows_of : LawKind → ℕ → ℕ → ℕ → List ℕ → Result (List (List ℤ) × List ℕ) LawFault
-rows_of kind n zero line text = Ok ([], text)
-rows_of kind n (suc k) line text =
-    bind (row_line kind n line text) (λ p. bind (rows_of kind n k (line + 1) p.1) (λ q. Ok (p.0 ∷ q.0, q.1)))
+rows_of kind n k line text = blocks.rows_of Text (ordered kind n) (row_limits kind n) k line text
 
 -- what stands behind the second line
 abbrev pub body_of : Head → List ℕ → Result (LawText × List ℕ) LawFault

@@ -1,17 +1,11 @@
 -- The limits of the numbers of a law text.
-use Rattle.std.specs.Prelude.{ℕ, List, [], ◌∷◌, ◌++◌, replicate, ℤ, pos, neg_ℤ}
+use Rattle.std.specs.Prelude.{ℕ, List, [], ◌∷◌, ◌++◌, replicate, pos}
 use Rattle.control.specs.Limits.{most_states, most_inputs, setting_limit}
 use Rattle.control.specs.Saturated.{gain_limit, offset_limit, most_divisor}
+pub use Rattle.text.specs.Limits.{from_to, around}
 use Rattle.text.specs.declared.number.Limit.{Limit}
 use Rattle.laws.specs.declared.table.LawKind.{LawKind}
 use Rattle.laws.specs.declared.table.LawKind.TheVariants.{Saturated, Fixed}
-
-abbrev pub from_to : ℤ → ℤ → Limit
-from_to low high = record { low = low; high = high }
-
--- magnitude at most k
-abbrev pub around : ℕ → Limit
-around k = from_to (neg_ℤ (pos k)) (pos k)
 
 abbrev pub states_limit : Limit
 states_limit = from_to (pos 1) (pos most_states)

@@ -1,8 +1,8 @@
 -- What a law text stores in the caller's place, and the answer beside it.
-use Rattle.std.specs.Prelude.{ℕ, ◌+◌, ◌-◌, List, [], ◌∷◌, ◌++◌, map, length, take, replicate, ℤ, pos, Ok, Err, Result, slice_index_or}
+use Rattle.std.specs.Prelude.{ℕ, ◌+◌, ◌-◌, List, [], ◌∷◌, ◌++◌, length, take, replicate, ℤ, pos, Ok, Err, Result, slice_index_or}
 use Rattle.std.specs.Borrow.{Bor}
 use Rattle.control.specs.declared.input.Input.{Input}
-use Rattle.text.specs.Lines.{padded, row_width}
+use Rattle.text.specs.Blocks.{held_rows}
 use Rattle.laws.specs.Laws.{LawText, Head}
 use Rattle.laws.specs.declared.faults.LawFault.{LawFault}
 use Rattle.laws.specs.declared.head.LawHead.{LawHead}
@@ -10,13 +10,6 @@ use Rattle.laws.specs.declared.table.LawKind.{LawKind}
 use Rattle.laws.specs.declared.table.LawKind.TheVariants.{Saturated, Fixed}
 use Rattle.laws.specs.declared.table.LawTable.{LawTable}
 use Rattle.laws.specs.declared.table.LawTable.TheVariants.{Saturated as SaturatedTable, Fixed as FixedTable}
-
--- the first two of a list, with a value for those that it lacks
-abbrev pub two : {X : Type 0} → X → List X → List X
-two d xs = slice_index_or xs 0 d ∷ slice_index_or xs 1 d ∷ []
-
-abbrev pub zero_row : List ℤ
-zero_row = replicate row_width (pos 0)
 
 -- gains, offset, divisor, low and high of a row at n states
 abbrev pub input_of : ℕ → List ℤ → Input
@@ -35,7 +28,7 @@ table_of Fixed n rows = FixedTable (slice_index_or (slice_index_or rows 0 []) 0 
 
 -- rows as they are stored: two of them, each with zeros up to its width
 abbrev pub stored_rows : List (List ℤ) → List (List ℤ)
-stored_rows rows = two zero_row (map padded rows)
+stored_rows rows = held_rows 2 rows
 
 abbrev pub stored : LawText → LawTable
 stored law = table_of law.kind law.states (stored_rows law.rows)
@@ -58,11 +51,6 @@ told (Err e) = Err e
 abbrev pub head_told : Result (LawHead × Bor (List ℕ)) LawFault → Result (Head × List ℕ) LawFault
 head_told (Ok p) = Ok (record { kind = p.0.kind; states = p.0.states; inputs = p.0.inputs }, p.1.now)
 head_told (Err e) = Err e
-
--- rows read, as they are stored
-abbrev pub rows_stored : Result (List (List ℤ) × List ℕ) LawFault → Result (List (List ℤ) × List ℕ) LawFault
-rows_stored (Ok p) = Ok (stored_rows p.0, p.1)
-rows_stored (Err e) = Err e
 
 -- second line, rows and rest, as the code holds them, and what they are of the law that is read
 abbrev pub values_told : Result (LawHead × List (List ℤ) × Bor (List ℕ)) LawFault → Result (Head × List (List ℤ) × List ℕ) LawFault

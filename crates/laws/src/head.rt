@@ -1,16 +1,15 @@
 // The second line of a law text: the law word and both sizes.
-ghost use Rattle.std.specs.Prelude.{◌≡◌, ◌≤◌, pos, ◌≤ℤ◌, IfOk, unsigned_abs};
+ghost use Rattle.std.specs.Prelude.{◌≡◌, ◌≤◌};
+ghost use Rattle.control.specs.Limits.{most_states, most_inputs};
 ghost use Rattle.text.specs.Left.{left_of};
 ghost use Rattle.text.specs.Lines.{next_field, after_field};
-ghost use Rattle.laws.specs.Laws.{kind_of, kind_at, head_line};
-ghost use Rattle.laws.specs.Tables.{head_told};
+ghost use Rattle.laws.specs.Laws.{kind_of, kind_at};
 
 use crate::faults::LawFault;
 use crate::table::LawKind;
 use control::limits::{MOST_INPUTS, MOST_STATES};
 use text::faults::TextFault;
 use text::fields::{Fields, cut};
-use text::lines::same;
 use text::number::Limit;
 
 // What the second line says.
@@ -19,6 +18,7 @@ pub struct LawHead {
     pub kind: LawKind,
     pub states: usize,
     pub inputs: usize,
+    ghost sizes: { (1 ≤ states) × (states ≤ most_states) × (1 ≤ inputs) × (inputs ≤ most_inputs) },
 }
 
 const STATES: Limit = Limit {
@@ -31,13 +31,13 @@ const INPUTS: Limit = Limit {
     high: MOST_INPUTS as i64,
 };
 
-// The kind of law that a word names.
+// The kind of law that a word names. No TryFrom: a word that names none has no error of its own, and the caller knows the line.
 fn law_kind(word: &[u8]) -> Option<LawKind>
     ensures { result ≡ kind_of word.now }
 {
-    if same(word, b"saturated") {
+    if word == b"saturated".as_slice() {
         Some(LawKind::Saturated)
-    } else if same(word, b"fixed") {
+    } else if word == b"fixed".as_slice() {
         Some(LawKind::Fixed)
     } else {
         None
@@ -53,33 +53,29 @@ fn next_kind(fields: &mut Fields) -> Option<LawKind>
     law_kind(word)
 }
 
-// A number of states or inputs.
-fn size(number: i64) -> usize
-    requires { (pos 0 ≤ℤ number) × (number ≤ℤ pos 4) }
-    ensures { result ≡ unsigned_abs number }
-{
-    number.unsigned_abs() as usize
-}
+impl LawHead {
+    ghost use Rattle.laws.specs.Laws.{head_line};
+    ghost use Rattle.laws.specs.Tables.{head_told};
 
-// Reads the second line of a law text, and gives what it says and the text after it.
-pub(crate) fn read_head(text: &[u8]) -> Result<(LawHead, &[u8]), LawFault>
-    ensures value { head_told result ≡ head_line text.now }
-    ensures small { IfOk result (λ p. (1 ≤ p.0.states) × (p.0.states ≤ 4) × (1 ≤ p.0.inputs) × (p.0.inputs ≤ 2)) }
-{
-    let Some((bytes, rest)) = cut(text, b'\n') else {
-        return Err(LawFault::Text(TextFault::Line(2)));
-    };
-    let mut fields = Fields::of(bytes);
-    let Some(kind) = next_kind(&mut fields) else {
-        return Err(LawFault::Word(2));
-    };
-    let sizes = fields.row(2, 1, &[STATES, INPUTS])?;
-    Ok((
-        LawHead {
-            kind,
-            states: size(sizes[0]),
-            inputs: size(sizes[1]),
-        },
-        rest,
-    ))
+    // Reads the second line of a law text, and gives what it says and the text after it.
+    pub(crate) fn read(text: &[u8]) -> Result<(LawHead, &[u8]), LawFault>
+        ensures { head_told result ≡ head_line text.now }
+    {
+        let Some((bytes, rest)) = cut(text, b'\n') else {
+            return Err(LawFault::Text(TextFault::Line(2)));
+        };
+        let mut fields = Fields::of(bytes);
+        let Some(kind) = next_kind(&mut fields) else {
+            return Err(LawFault::Word(2));
+        };
+        let sizes = fields.row(2, 1, &[STATES, INPUTS])?;
+        Ok((
+            LawHead {
+                kind,
+                states: sizes[0].unsigned_abs() as usize,
+                inputs: sizes[1].unsigned_abs() as usize,
+            },
+            rest,
+        ))
+    }
 }

@@ -24,17 +24,18 @@ impl Law {
         }
         match table {
             LawTable::Saturated(list) => {
-                let law = Saturated::new(states, &list[0..inputs])?;
+                let law = Saturated::new(states, &list[..inputs])?;
                 Some(Law::Saturated(law))
             }
             LawTable::Fixed(list) => {
-                let law = Fixed::new(states, &list[0..inputs])?;
+                let law = Fixed::new(states, &list[..inputs])?;
                 Some(Law::Fixed(law))
             }
         }
     }
 }
 
+// Each question goes to the make at hand: the two are of different types, and no other form says it in fewer words.
 impl Controller for Law {
     ghost states = { λ law. (controlled law).states };
 

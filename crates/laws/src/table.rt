@@ -8,7 +8,7 @@ pub enum LawKind {
     Fixed,
 }
 
-// The numbers of a law, input by input; the places of a lacking state or input hold 0.
+// The numbers of a law, input by input; the places of a lacking state or input hold 0. Fixed places: a caller lends them.
 #[derive(Clone, Copy)]
 pub enum LawTable {
     Saturated([Input; 2]),

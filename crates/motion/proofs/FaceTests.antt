@@ -2,7 +2,7 @@
 use Rattle.std.proofs.Common.{◌≡◌, ℕ, zero, suc, ◌+◌, ◌-◌, ◌*◌, ◌<◌, ◌≤◌, Bool, true, cond, eqb, List, [], ◌∷◌, ◌++◌, map, length, get_or, take, drop, ℤ, pos, negsuc, ◌*ℤ◌, neg_ℤ, Ok, Err, Decides, Result, sym, ap, ◌∙◌, subst, inl, inr, arith}
 use lib.Signed.{le_z}
 use Rattle.std.specs.List.{AllByRecursion}
-use Rattle.std.proofs.lemmas.List.{at_drop_all, at_drop_more, get_or-map, length-map}
+use Rattle.std.proofs.lemmas.List.{at_drop_all, at_drop_more, get_or-map, length-map, length-take-le, get_or-take}
 use Rattle.std.proofs.lemmas.Int.{ints}
 use Rattle.std.proofs.lemmas.Bool.{cases_Bool, cond-true, cond-false, eqb-true, eq-eqb, ne_eqb}
 use Rattle.std.proofs.lemmas.Bool.Decides.{not_from_Decides}
@@ -15,12 +15,14 @@ use Rattle.case.specs.Faces.{unit, box_faces, extra_face, faces, Inside}
 use Rattle.case.specs.Values.{CaseValues, state_count, equation_of, extra_of, values_of}
 use Rattle.case.specs.declared.values.Case.{Case}
 use Rattle.case.specs.declared.values.StateEquation.{StateEquation}
+use Rattle.case.proofs.Faces.{box_count}
+use Rattle.case.proofs.Stored.{equations_enough, extras_enough, states_are, extras_are}
 use Rattle.motion.specs.declared.faces.Outside.{Outside}
 use Rattle.motion.specs.declared.faces.Outside.TheVariants.{Length, Face}
 use Rattle.motion.specs.Moves.{no_equation}
 use Rattle.motion.specs.Tests.{holds_test, rows_test, state_test, FirstFailing}
 use Rattle.motion.proofs.Widths.{le_test}
-use Rattle.motion.proofs.Stored.{no_extra, held_long, held_at, equations_enough, extras_enough}
+use Rattle.motion.proofs.Stored.{no_extra, held_at}
 
 -- the test of a row says whether it holds
 pub holds_decides : (x : List ℤ) (row : Row) → Decides (holds_test x row) (Holds x row)
@@ -57,24 +59,16 @@ bounds_turn n x ss i s lt e f is =
     ∙ ap (λ t. rows_test x k (box_faces n i (t ∷ drop (i + 1) ss))) is
     ∙ rw (high_test n i x s.high lt e, low_test n i x s.low lt e, more, next, second)
 
--- how many states the values of a case have
-pub states_held : (k : Case) → state_count (values_of k) ≡ k.states
-states_held k = held_long (equation_of k.states k.inputs k.pushes) k.states k.equations (equations_enough k)
-
 -- one turn of the loop over the states of a case
 pub case_turn : (k : Case) (x : List ℤ) (i : ℕ) → i < k.states → length x ≡ k.states → bounds_left k.states x (values_of k).equations i ≡ cond (le_z (get_or x i (pos 0)) (get_or k.equations i no_equation).high) (cond (le_z (get_or k.equations i no_equation).low (get_or x i (pos 0))) (bounds_left k.states x (values_of k).equations (i + 1)) (Err (Face (2 * i + 2)))) (Err (Face (2 * i + 1)))
 case_turn k x i lt e =
     let f = equation_of k.states k.inputs k.pushes in
-    bounds_turn k.states x (values_of k).equations i (f (get_or k.equations i no_equation)) lt e (states_held k) (held_at f k.states k.equations i no_equation no_equation lt (equations_enough k))
+    bounds_turn k.states x (values_of k).equations i (f (get_or k.equations i no_equation)) lt e (states_are k) (held_at f k.states k.equations i no_equation no_equation lt (equations_enough k))
 
 pub bounds_end : (k : Case) (x : List ℤ) (i : ℕ) → k.states ≤ i → bounds_left k.states x (values_of k).equations i ≡ Ok tt
 bounds_end k x i le =
-    let h : length (values_of k).equations ≤ i = omega (arith, states_held k) in
+    let h : length (values_of k).equations ≤ i = omega (arith, states_are k) in
     at_drop_all (λ t. rows_test x (2 * i + 1) (box_faces k.states i t)) (values_of k).equations i h
-
-pub box_long : (n i : ℕ) (ss : List StateEquation) → length (box_faces n i ss) ≡ 2 * length ss
-box_long n i [] = omega arith
-box_long n i (s ∷ ss) = omega (arith, box_long n (suc i) ss)
 
 -- a test that passes
 passed : (b : Bool) (r : Result (Unit {0}) Outside) (e : Outside) → cond b r (Err e) ≡ Ok tt → (b ≡ true) × (r ≡ Ok tt)
@@ -149,39 +143,42 @@ abbrev pub extras_left : Case → List ℤ → ℕ → Result (Unit {0}) Outside
 extras_left k x i = rows_test x (2 * k.states + i + 1) (drop i (map extra_face (values_of k).extra))
 
 -- one turn of the loop over the extra faces of a case
-pub extras_turn : (k : Case) (x : List ℤ) (i : ℕ) (b : Bool) → i < k.extras → length x ≡ k.states → b ≡ holds_test x (extra_face (extra_of (length x) (get_or k.extra i no_extra))) → extras_left k x i ≡ cond b (extras_left k x (i + 1)) (Err (Face (2 * k.states + i + 1)))
-extras_turn k x i b lt long is =
+pub extras_turn : (k : Case) (x : List ℤ) (i : ℕ) (b : Bool) → i < length (take k.extras k.extra) → length x ≡ k.states → b ≡ holds_test x (extra_face (extra_of (length x) (get_or (take k.extras k.extra) i no_extra))) → extras_left k x i ≡ cond b (extras_left k x (i + 1)) (Err (Face (2 * k.states + i + 1)))
+extras_turn k x i b below long is =
     let f = extra_of k.states in
+    let lt : i < k.extras = omega (arith, length-take-le k.extras k.extra (extras_enough k)) in
+    let own : get_or (take k.extras k.extra) i no_extra ≡ get_or k.extra i no_extra = get_or-take k.extras k.extra i no_extra lt in
     let j = 2 * k.states + i + 1 in
-    let h : i < length (values_of k).extra = omega (arith, held_long f k.extras k.extra (extras_enough k)) in
+    let h : i < length (values_of k).extra = omega (arith, extras_are k) in
     let g : i < length (map extra_face (values_of k).extra) = omega (arith, length-map (values_of k).extra extra_face) in
     let at = get_or-map extra_face (values_of k).extra i no_extra no_row h ∙ ap extra_face (held_at f k.extras k.extra i no_extra no_extra lt (extras_enough k)) in
-    let test : b ≡ holds_test x (extra_face (f (get_or k.extra i no_extra))) = is ∙ ap (λ n. holds_test x (extra_face (extra_of n (get_or k.extra i no_extra)))) long in
+    let test : b ≡ holds_test x (extra_face (f (get_or k.extra i no_extra))) = is ∙ ap (λ f. holds_test x (extra_face (extra_of (length x) f))) own ∙ ap (λ n. holds_test x (extra_face (extra_of n (get_or k.extra i no_extra)))) long in
     let more : suc j ≡ 2 * k.states + (i + 1) + 1 = omega arith in
     at_drop_more (rows_test x j) (map extra_face (values_of k).extra) i no_row g
     ∙ ap (λ row. cond (holds_test x row) (rows_test x (suc j) (drop (i + 1) (map extra_face (values_of k).extra))) (Err (Face j))) at
     ∙ ap (λ t. cond t (rows_test x (suc j) (drop (i + 1) (map extra_face (values_of k).extra))) (Err (Face j))) (sym test)
     ∙ ap (λ n. cond b (rows_test x n (drop (i + 1) (map extra_face (values_of k).extra))) (Err (Face j))) more
 
-pub extras_end : (k : Case) (x : List ℤ) (i : ℕ) → k.extras ≤ i → extras_left k x i ≡ Ok tt
-extras_end k x i le =
-    let h : length (map extra_face (values_of k).extra) ≤ i = omega (arith, length-map (values_of k).extra extra_face, held_long (extra_of k.states) k.extras k.extra (extras_enough k)) in
+pub extras_end : (k : Case) (x : List ℤ) (i : ℕ) → length (take k.extras k.extra) ≤ i → extras_left k x i ≡ Ok tt
+extras_end k x i past =
+    let le : k.extras ≤ i = omega (arith, length-take-le k.extras k.extra (extras_enough k)) in
+    let h : length (map extra_face (values_of k).extra) ≤ i = omega (arith, length-map (values_of k).extra extra_face, extras_are k) in
     at_drop_all (rows_test x (2 * k.states + i + 1)) (map extra_face (values_of k).extra) i h
 
 -- the test of a state in parts: its length, the bounds of each state, then the extra faces
 pub wrong_length : (k : Case) (x : List ℤ) → (length x ≡ k.states → ⊥) → Err Length ≡ state_test (values_of k) x
-wrong_length k x ne = sym (cond-false _ _ _ (ne_eqb _ _ (λ e. ne (e ∙ states_held k))))
+wrong_length k x ne = sym (cond-false _ _ _ (ne_eqb _ _ (λ e. ne (e ∙ states_are k))))
 
 pub bounds_refused : (k : Case) (x : List ℤ) (e : Outside) → length x ≡ k.states → Err e ≡ rows_test x 1 (box_faces k.states 0 (values_of k).equations) → Err e ≡ state_test (values_of k) x
 bounds_refused k x e long h =
     let rows = box_faces (state_count (values_of k)) 0 (values_of k).equations in
-    let r : rows_test x 1 rows ≡ Err e = ap (λ n. rows_test x 1 (box_faces n 0 (values_of k).equations)) (states_held k) ∙ sym h in
-    sym (cond-true _ _ _ (eq-eqb _ _ (long ∙ sym (states_held k))) ∙ rows_refused x 1 rows (map extra_face (values_of k).extra) e r)
+    let r : rows_test x 1 rows ≡ Err e = ap (λ n. rows_test x 1 (box_faces n 0 (values_of k).equations)) (states_are k) ∙ sym h in
+    sym (cond-true _ _ _ (eq-eqb _ _ (long ∙ sym (states_are k))) ∙ rows_refused x 1 rows (map extra_face (values_of k).extra) e r)
 
 pub bounds_passed : (k : Case) (x : List ℤ) (r : Result (Unit {0}) Outside) → length x ≡ k.states → Ok tt ≡ rows_test x 1 (box_faces k.states 0 (values_of k).equations) → r ≡ rows_test x (2 * k.states + 1) (map extra_face (values_of k).extra) → r ≡ state_test (values_of k) x
 bounds_passed k x r long h is =
     let rows = box_faces (state_count (values_of k)) 0 (values_of k).equations in
     let more = map extra_face (values_of k).extra in
-    let p : rows_test x 1 rows ≡ Ok tt = ap (λ n. rows_test x 1 (box_faces n 0 (values_of k).equations)) (states_held k) ∙ sym h in
-    let count : 2 * k.states + 1 ≡ 1 + length rows = omega (arith, box_long (state_count (values_of k)) 0 (values_of k).equations, states_held k) in
-    is ∙ ap (λ j. rows_test x j more) count ∙ sym (cond-true _ _ _ (eq-eqb _ _ (long ∙ sym (states_held k))) ∙ rows_passed x 1 rows more p)
+    let p : rows_test x 1 rows ≡ Ok tt = ap (λ n. rows_test x 1 (box_faces n 0 (values_of k).equations)) (states_are k) ∙ sym h in
+    let count : 2 * k.states + 1 ≡ 1 + length rows = omega (arith, box_count (state_count (values_of k)) 0 (values_of k).equations, states_are k) in
+    is ∙ ap (λ j. rows_test x j more) count ∙ sym (cond-true _ _ _ (eq-eqb _ _ (long ∙ sym (states_are k))) ∙ rows_passed x 1 rows more p)

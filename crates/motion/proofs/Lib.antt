@@ -1,6 +1,5 @@
 -- The lemmas of the crate.
 pub mod Widths
-pub mod RowSums
 pub mod Stored
 pub mod FaceTests
 pub mod Roundings

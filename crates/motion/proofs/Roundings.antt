@@ -1,17 +1,17 @@
 -- The permitted next values are the whole numbers from the lowest to the highest.
-use Rattle.std.proofs.Common.{◌≡◌, ℕ, ◌+◌, ◌*◌, ◌<◌, false, ℤ, pos, negsuc, ◌+ℤ◌, ◌-ℤ◌, ◌*ℤ◌, neg_ℤ, ◌≤ℤ◌, ◌<ℤ◌, Some, None, sym, ap, ◌∙◌, subst, inl, inr, div-le_self, arith, lit<, w64, SFits, to_z, of_z}
-use lib.Signed.{le_z}
+use Rattle.std.proofs.Common.{◌≡◌, ℕ, ◌+◌, ◌*◌, ◌<◌, ℤ, pos, negsuc, ◌+ℤ◌, ◌-ℤ◌, ◌*ℤ◌, neg_ℤ, ◌≤ℤ◌, ◌<ℤ◌, Some, sym, ap, ◌∙◌, subst, div-le_self, arith, lit<, w64, SFits, to_z, of_z}
 use mir.Syntax.{w128}
 use Rattle.std.specs.Int.{int_div_euclid}
 use Rattle.std.proofs.lemmas.Int.{ints, to_z-of_z}
-use Rattle.std.proofs.lemmas.Bool.{and_right, cases_Bool, cond-true, cond-false}
+use Rattle.std.proofs.lemmas.Bool.{cond-true}
 use Rattle.arith.specs.Bounds.{Within}
-use Rattle.arith.proofs.Bounds.{negated_within, le_z_true}
+use Rattle.arith.proofs.Bounds.{negated_within}
 use Rattle.arith.proofs.Floors.{mul_one, mul_mono, mul_below, floor_low, floor_high}
 use Rattle.arith.proofs.Ring.{*ℤ_distl, *ℤ_neg}
 use Rattle.case.specs.Next.{Permits, lowest, highest}
-use Rattle.motion.specs.Moves.{permitted_values, Exactly, led}
-use Rattle.motion.proofs.Widths.{value_limit, value_within, wide_within, widened, le_test}
+use Rattle.motion.specs.Moves.{permitted_values, Exactly}
+use Rattle.arith.proofs.Widths.{value_limit, value_within, wide_within, widened}
+use Rattle.motion.proofs.Widths.{le_test}
 
 -- y is at most the floor of v / b exactly where b × y is at most v
 below_floor : (b : ℕ) (v y : ℤ) → 0 < b → (pos b *ℤ y) ≤ℤ v → y ≤ℤ int_div_euclid v (pos b)
@@ -74,22 +74,16 @@ lowest_within m n (pos b) r v one f g =
     negated_within (m + n) (int_div_euclid (r -ℤ v) (pos b)) (floor_within (m + n) b (r -ℤ v) w)
 lowest_within m n (negsuc b) r v one f g = absurd (omega (arith, ints))
 
-pub highest_within : (m n : ℕ) (D r v : ℤ) → pos 1 ≤ℤ D → Within m r → Within n v → Within (m + n) (highest D r v)
-highest_within m n (pos b) r v one f g =
-    let w : Within (m + n) (v +ℤ r) = (omega (arith, ints, f.0, g.0), omega (arith, ints, f.1, g.1)) in
-    floor_within (m + n) b (v +ℤ r) w
-highest_within m n (negsuc b) r v one f g = absurd (omega (arith, ints))
-
 -- the lowest value as the code computes it
 pub lowest_fits : (D r v : ℤ) → pos 1 ≤ℤ D → SFits w64 r → SFits w64 v → SFits w128 (lowest D r v)
 lowest_fits D r v one f g = wide_within (value_limit + value_limit) _ (lit< tt) (lowest_within value_limit value_limit D r v one (value_within r f) (value_within v g))
 
-pub widened_difference : (r v : ℤ) → SFits w64 r → SFits w64 v → to_z w128 (of_z w128 (to_z w128 (of_z w128 (to_z w64 (of_z w64 r))) -ℤ to_z w128 (of_z w128 (to_z w64 (of_z w64 v))))) ≡ r -ℤ v
-widened_difference r v f g =
+pub widened_difference : (r v x y : ℤ) → SFits w64 r → SFits w64 v → x ≡ to_z w64 (of_z w64 r) → y ≡ to_z w64 (of_z w64 v) → to_z w128 (of_z w128 (to_z w128 (of_z w128 x) -ℤ to_z w128 (of_z w128 y))) ≡ r -ℤ v
+widened_difference r v x y f g d e =
     let a = value_within r f in
     let c = value_within v g in
     let m : Within (2 * value_limit) (r -ℤ v) = (omega (arith, ints, a.0, c.1), omega (arith, ints, a.1, c.0)) in
-    rw (widened r f, widened v g) (to_z-of_z w128 (r -ℤ v) (wide_within (2 * value_limit) (r -ℤ v) (lit< tt) m))
+    rw (widened r x f d, widened v y g e) (to_z-of_z w128 (r -ℤ v) (wide_within (2 * value_limit) (r -ℤ v) (lit< tt) m))
 
 pub quotient_read : (p d q a b : ℤ) → q ≡ int_div_euclid p d → p ≡ a → d ≡ b → q ≡ int_div_euclid a b
 quotient_read p d q a b e f g = e ∙ ap (λ z. int_div_euclid z d) f ∙ ap (int_div_euclid a) g
@@ -97,22 +91,6 @@ quotient_read p d q a b e f g = e ∙ ap (λ z. int_div_euclid z d) f ∙ ap (in
 pub negated_read : (q : ℤ) → SFits w128 q → pos 0 -ℤ to_z w128 (of_z w128 q) ≡ neg_ℤ q
 negated_read q f = let e = to_z-of_z w128 q f in omega (arith, ints)
 
--- the pick as the code adds it
-between_fits : (l z u : ℤ) → SFits w128 l → SFits w128 u → l ≤ℤ z → z ≤ℤ u → SFits w128 z
-between_fits l z u f g a b = omega (arith, ints)
-
-pub past_all : (l u pick : ℤ) → SFits w128 l → SFits w128 u → pos 0 ≤ℤ pick → (SFits w128 (l +ℤ pick) → ⊥) → None ≡ led l u pick
-past_all l u pick f g low wraps =
-    let above : le_z (l +ℤ pick) u ≡ false =
-    elim (cases_Bool (le_z (l +ℤ pick) u)) [
-      | inl p ↦ absurd (wraps (between_fits l (l +ℤ pick) u f g (omega (arith, ints)) (le_z_true _ _ p)))
-      | inr p ↦ p
-    ] in
-    sym (cond-false _ _ _ (and_right _ _ above))
-
 -- three numbers as the code passes them
 pub numbers_read : (F : ℤ → ℤ → ℤ → ℤ) (a b c : ℤ) → SFits w64 a → SFits w64 b → SFits w64 c → F (to_z w64 (of_z w64 a)) (to_z w64 (of_z w64 b)) (to_z w64 (of_z w64 c)) ≡ F a b c
 numbers_read F a b c f g h = rw (to_z-of_z w64 a f, to_z-of_z w64 b g, to_z-of_z w64 c h)
-
-pub pick_read : (l pick : ℤ) → SFits w128 l → SFits w64 pick → to_z w128 (of_z w128 l) +ℤ to_z w128 (of_z w128 (to_z w64 (of_z w64 pick))) ≡ l +ℤ pick
-pick_read l pick f g = rw (to_z-of_z w128 l f, widened pick g)

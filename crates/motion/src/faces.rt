@@ -7,7 +7,7 @@ ghost use Rattle.case.specs.Values.{extra_of, values_of};
 ghost use Rattle.motion.specs.declared.faces.Outside.TheVariants.{Face};
 ghost use Rattle.motion.specs.Tests.{FirstFailing, holds_test, rows_test, state_test};
 
-use super::products::row_product;
+use arith::wide_product;
 use case::values::{Case, ExtraFace};
 
 // Why a list of values is not inside: its length, or the first face that does not hold, counted from 1.
@@ -17,17 +17,18 @@ pub enum Outside {
     Face(u32),
 }
 
-// Tests the bounds of each state.
+// Tests the bounds of each state. That there are as many values as states is said twice, here and below, by the one caller's test.
 fn test_bounds(case: &Case, x: &[i64]) -> Result<(), Outside>
     requires { length x.now ≡ case.now.states }
     ensures { let c = case.now in result ≡ rows_test x.now 1 (box_faces c.states 0 (values_of c).equations) }
 {
-    for i in 0..case.states {
+    // By index into the equations, not by `zip`: its items come to the proof without the range of their type.
+    for (i, value) in x.iter().enumerate() {
         let before = 2 * i as u32;
-        if x[i] > case.equations[i].high {
+        if *value > case.equations[i].high {
             return Err(Outside::Face(before + 1));
         }
-        if x[i] < case.equations[i].low {
+        if *value < case.equations[i].low {
             return Err(Outside::Face(before + 2));
         }
     }
@@ -40,7 +41,7 @@ fn extra_holds(face: ExtraFace, x: &[i64]) -> bool
     requires few { length x.now ≤ most_states }
     ensures { result ≡ holds_test x.now (extra_face (extra_of (length x.now) face)) }
 {
-    row_product(&face.coefficients[0..x.len()], x) <= face.right as i128
+    wide_product(&face.coefficients[..x.len()], x) <= i128::from(face.right)
 }
 
 // Tests each extra face.
@@ -49,8 +50,8 @@ fn test_extras(case: &Case, x: &[i64]) -> Result<(), Outside>
     ensures { let c = case.now in result ≡ rows_test x.now (2 * c.states + 1) (map extra_face (values_of c).extra) }
 {
     let before = 2 * case.states as u32;
-    for k in 0..case.extras {
-        if !extra_holds(case.extra[k], x) {
+    for (k, face) in case.extra[..case.extras].iter().enumerate() {
+        if !extra_holds(*face, x) {
             return Err(Outside::Face(before + k as u32 + 1));
         }
     }

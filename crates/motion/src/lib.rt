@@ -3,9 +3,8 @@
 
 mod faces;
 mod next;
-mod products;
 mod range;
 
 pub use faces::{Outside, test_state};
-pub use next::{aimed, permitted};
+pub use next::{Step, aimed, permitted};
 pub use range::Permitted;

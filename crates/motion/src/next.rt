@@ -1,15 +1,14 @@
 // The next value of a state: what it aims at, and the values that its rounding permits.
 ghost use Rattle.std.specs.Prelude.{◌≡◌, ◌<◌, ◌≤◌, true, length, pos, ◌+ℤ◌, ◌*ℤ◌, ◌≤ℤ◌, IfSome, slice_index_or};
-ghost use Rattle.std.specs.List.{AllByRecursion};
-ghost use Rattle.arith.specs.Bounds.{Within};
+ghost use Rattle.arith.specs.Bounds.{Within, all_within};
 ghost use Rattle.control.specs.Limits.{most_states, most_inputs, state_limit, command_limit};
 ghost use Rattle.case.specs.Limits.{most_pushes, bound_limit, equation_ok};
 ghost use Rattle.case.specs.Next.{aim, lowest, highest};
 ghost use Rattle.case.specs.Values.{equation_of, values_of};
 ghost use Rattle.motion.specs.Moves.{permitted_values, Exactly, aim_limit, no_equation};
 
-use super::products::row_product;
 use super::range::Permitted;
+use arith::wide_product;
 use case::values::{Case, StateEquation};
 
 // (v - leeway) / divisor, rounded up.
@@ -17,7 +16,7 @@ fn lowest_value(divisor: i64, leeway: i64, v: i64) -> i128
     requires { pos 1 ≤ℤ divisor }
     ensures { result ≡ lowest divisor leeway v }
 {
-    -(leeway as i128 - v as i128).div_euclid(divisor as i128)
+    -(i128::from(leeway) - i128::from(v)).div_euclid(i128::from(divisor))
 }
 
 // (v + leeway) / divisor, rounded down.
@@ -25,7 +24,7 @@ fn highest_value(divisor: i64, leeway: i64, v: i64) -> i128
     requires { pos 1 ≤ℤ divisor }
     ensures { result ≡ highest divisor leeway v }
 {
-    (v as i128 + leeway as i128).div_euclid(divisor as i128)
+    (i128::from(v) + i128::from(leeway)).div_euclid(i128::from(divisor))
 }
 
 // The permitted next values of a state that aims at v.
@@ -51,38 +50,48 @@ fn total(ax: i128, bu: i128, ew: i128, constant: i64) -> i64
     requires sum { Within aim_limit (ax +ℤ bu +ℤ ew +ℤ constant) }
     ensures { result ≡ ax +ℤ bu +ℤ ew +ℤ constant }
 {
-    (ax + bu + ew + constant as i128) as i64
+    (ax + bu + ew + i128::from(constant)) as i64
+}
+
+// One step to be aimed at: the state, the command and the pushes, each value within its range.
+#[derive(Clone, Copy)]
+pub struct Step<'a> {
+    pub state: &'a [i64],
+    pub command: &'a [i64],
+    pub pushes: &'a [i64],
+    ghost small_state: { all_within state_limit state.now ≡ true },
+    ghost small_command: { all_within command_limit command.now ≡ true },
+    ghost small_pushes: { all_within bound_limit pushes.now ≡ true },
 }
 
 // What a state aims at, by its equation.
-fn aim_of(s: StateEquation, x: &[i64], u: &[i64], w: &[i64]) -> i64
+fn aim_of(s: StateEquation, step: &Step) -> i64
     requires limits { equation_ok s ≡ true }
-    requires states { length x.now ≤ most_states }
-    requires inputs { length u.now ≤ most_inputs }
-    requires pushes { length w.now ≤ most_pushes }
-    requires small_x { AllByRecursion (Within state_limit) x.now }
-    requires small_u { AllByRecursion (Within command_limit) u.now }
-    requires small_w { AllByRecursion (Within bound_limit) w.now }
-    ensures value { result ≡ aim (equation_of (length x.now) (length u.now) (length w.now) s) x.now u.now w.now }
+    requires states { length step.now.state.now ≤ most_states }
+    requires inputs { length step.now.command.now ≤ most_inputs }
+    requires pushes { length step.now.pushes.now ≤ most_pushes }
+    ensures value { let t = step.now in result ≡ aim (equation_of (length t.state.now) (length t.command.now) (length t.pushes.now) s) t.state.now t.command.now t.pushes.now }
     ensures bound { Within aim_limit result }
 {
-    let ax = row_product(&s.a[0..x.len()], x);
-    let bu = row_product(&s.b[0..u.len()], u);
-    let ew = row_product(&s.e[0..w.len()], w);
+    let Step {
+        state: x,
+        command: u,
+        pushes: w,
+    } = *step;
+    let ax = wide_product(&s.a[..x.len()], x);
+    let bu = wide_product(&s.b[..u.len()], u);
+    let ew = wide_product(&s.e[..w.len()], w);
     total(ax, bu, ew, s.constant)
 }
 
-// What a state of the case, counted from 0, aims at: v of the state x, the command u and the pushes w.
-pub fn aimed(case: &Case, state: usize, x: &[i64], u: &[i64], w: &[i64]) -> i64
+// What a state of the case, counted from 0, aims at: v of a step.
+pub fn aimed(case: &Case, state: usize, step: &Step) -> i64
     requires place { state < case.now.states }
-    requires states { length x.now ≡ case.now.states }
-    requires inputs { length u.now ≡ case.now.inputs }
-    requires pushes { length w.now ≡ case.now.pushes }
-    requires small_x { AllByRecursion (Within state_limit) x.now }
-    requires small_u { AllByRecursion (Within command_limit) u.now }
-    requires small_w { AllByRecursion (Within bound_limit) w.now }
-    ensures value { result ≡ aim (slice_index_or (values_of case.now).equations state no_equation) x.now u.now w.now }
+    requires states { length step.now.state.now ≡ case.now.states }
+    requires inputs { length step.now.command.now ≡ case.now.inputs }
+    requires pushes { length step.now.pushes.now ≡ case.now.pushes }
+    ensures value { result ≡ aim (slice_index_or (values_of case.now).equations state no_equation) step.now.state.now step.now.command.now step.now.pushes.now }
     ensures bound { Within aim_limit result }
 {
-    aim_of(case.equations[state], x, u, w)
+    aim_of(case.equations[state], step)
 }

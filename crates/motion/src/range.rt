@@ -18,7 +18,7 @@ impl Permitted {
         if pick < 0 {
             return None;
         }
-        let value = lowest.checked_add(pick as i128)?;
+        let value = lowest.checked_add(i128::from(pick))?;
         if value > highest {
             return None;
         }

@@ -1,4 +1,5 @@
-// A printer of bytes and whole numbers into the front of a slice.
+// A printer of bytes and whole numbers into the front of a slice. No Display: a record is lent memory, and each number goes
+// into what remains of it.
 ghost use Rattle.std.specs.Prelude.{◌≡◌, ◌≤◌, length};
 ghost use Rattle.text.specs.Render.{render-ℕ, render};
 ghost use Rattle.report.specs.Written.{written, written_if, room};

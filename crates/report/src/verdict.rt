@@ -22,7 +22,8 @@ pub enum Layer {
     Loop,
 }
 
-// What a refusal tells: the layer, the place and the cause; a number that is not told is 0.
+// What a refusal tells: the layer, the place and the cause; a number that is not told is 0, as it is printed. The cause is a
+// number: a report may hold any, and the type of the named causes would ask more of callers.
 #[derive(Clone, Copy, PartialEq, Eq, Debug)]
 pub struct Report {
     pub layer: Layer,
@@ -42,7 +43,7 @@ pub enum Verdict {
 }
 
 impl Layer {
-    // The word for a layer.
+    // The word for a layer, as bytes: a record takes bytes and no formatter.
     fn word(self) -> &'static [u8]
         ensures { result.now ≡ layer_word self }
     {
@@ -57,7 +58,7 @@ impl Layer {
 }
 
 impl Verdict {
-    // The word for a verdict.
+    // The word for a verdict, as bytes like that for a layer.
     fn word(self) -> &'static [u8]
         ensures { result.now ≡ verdict_word self }
     {
@@ -97,10 +98,7 @@ fn print_bytes(out: &mut [u8], bytes: &[u8]) -> usize
     ensures count { result ≡ length bytes.now }
     ensures bytes { out.new ≡ written bytes.now out.old }
 {
-    match write_bytes(out, bytes) {
-        Some(count) => count,
-        None => unreachable(),
-    }
+    write_bytes(out, bytes).unwrap()
 }
 
 // Writes numbers, each after a space, into the front of a slice that has room for them, and says how many bytes that
@@ -110,6 +108,7 @@ fn print_numbers(out: &mut [u8], numbers: &[u32]) -> usize
     ensures count { result ≡ length (flat_map spaced numbers.now) }
     ensures bytes { out.new ≡ written (flat_map spaced numbers.now) out.old }
 {
+    // `at` counts bytes and not numbers: each number is written into what remains of the record.
     let mut at = 0;
     for number in numbers {
         out[at] = b' ';
@@ -130,6 +129,7 @@ fn print_line(out: &mut [u8], word: &[u8], layer: &[u8], numbers: &[u32]) -> usi
     ensures fits { result ≤ length out.old }
     ensures bytes { out.new ≡ written (line_of word.now layer.now numbers.now) out.old }
 {
+    // `at` counts bytes of the record.
     let mut at = print_bytes(out, word);
     out[at] = b' ';
     at += 1;

@@ -1,5 +1,5 @@
 -- The promise, from the facts on the start rows, on joining, and on rows that refute.
-use Rattle.std.proofs.Common.{◌≡◌, ℕ, ◌+◌, ◌-◌, ◌≤◌, Bool, true, false, cond, ◌&&◌, eqb, ◌⊎◌, List, map, length, get_or, ℤ, pos, ◌≤ℤ◌, Ok, Err, sym, refl, ◌∙◌, subst, inl, inr, arith}
+use Rattle.std.proofs.Common.{◌≡◌, ℕ, ◌+◌, ◌-◌, Bool, true, false, cond, ◌&&◌, eqb, ◌⊎◌, List, map, length, get_or, pos, ◌≤ℤ◌, Ok, Err, sym, refl, ◌∙◌, subst, inl, inr, arith}
 use Rattle.std.specs.List.{ContainsAt as Has, AllByRecursion}
 use Rattle.std.proofs.ByRecursion.{All-append, All-get_or, all-has, All-take, All-weaker}
 use Rattle.std.proofs.lemmas.List.{length-append, length-replicate}
@@ -13,10 +13,11 @@ use Rattle.case.specs.declared.values.Case.{Case}
 use Rattle.case.specs.Faces.{faces}
 use Rattle.case.specs.System.{column_count, none, over_states}
 use Rattle.case.specs.Values.{CaseValues, state_count, push_count, values_of}
+use Rattle.case.proofs.Faces.{faces_count}
+use Rattle.case.proofs.Stored.{states_are, extras_are}
 use Rattle.system.specs.Answers.{system_of}
-use Rattle.system.proofs.Counts.{faces_count, system_count}
+use Rattle.system.proofs.Counts.{system_count}
 use Rattle.system.proofs.Groups.{face_at}
-use Rattle.system.proofs.Stored.{states_are, extras_are}
 use Rattle.certificate.specs.Tests.{face_of}
 use Rattle.certificate.proofs.Faced.{FaceReady, face_long, face_small}
 use Rattle.certificate.proofs.Found as found

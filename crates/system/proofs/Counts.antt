@@ -5,18 +5,11 @@ use Rattle.control.specs.Meaning.{Row}
 use Rattle.case.specs.declared.values.StateEquation.{StateEquation}
 use Rattle.case.specs.declared.values.PushBounds.{PushBounds}
 use Rattle.case.specs.declared.values.Case.{Case}
-use Rattle.case.specs.Faces.{box_faces, extra_face, faces}
+use Rattle.case.specs.Faces.{faces}
 use Rattle.case.specs.System.{column_count, over_states, over_commands, push_rows, next_rows, system}
 use Rattle.case.specs.Values.{CaseValues, state_count, push_count, values_of}
-use Rattle.system.proofs.Stored.{states_are, pushes_are, extras_are}
-
-pub box_count : (n i : ℕ) (ss : List StateEquation) → length (box_faces n i ss) ≡ 2 * length ss
-box_count n i [] = refl
-box_count n i (s ∷ ss) = omega (arith, box_count n (suc i) ss)
-
-pub faces_count : (k : CaseValues) → length (faces k) ≡ 2 * state_count k + length k.extra
-faces_count k =
-    omega (arith, length-append (box_faces (state_count k) 0 k.equations) (map extra_face k.extra), box_count (state_count k) 0 k.equations, length-map k.extra extra_face)
+use Rattle.case.proofs.Faces.{faces_count}
+use Rattle.case.proofs.Stored.{states_are, pushes_are, extras_are}
 
 pub push_rows_count : (k : CaseValues) (j : ℕ) (bs : List PushBounds) → length (push_rows k j bs) ≡ 2 * length bs
 push_rows_count k j [] = refl

@@ -1,15 +1,15 @@
 -- What the code fills in is the row of the case.
-use Rattle.std.proofs.Common.{◌≡◌, ℕ, zero, suc, ◌+◌, ◌-◌, ◌*◌, ◌/◌, ◌%◌, ◌^◌, ◌<◌, ◌≤◌, true, List, [], ◌∷◌, ◌++◌, map, length, get_or, take, ℤ, pos, negsuc, ◌+ℤ◌, ◌-ℤ◌, ◌*ℤ◌, neg_ℤ, Ok, Result, sym, refl, ap, ◌∙◌, subst, arith, lit<, w64, SFits, to_z, of_z}
+use Rattle.std.proofs.Common.{◌≡◌, ℕ, zero, suc, ◌+◌, ◌-◌, ◌*◌, ◌/◌, ◌%◌, ◌<◌, ◌≤◌, Bool, true, false, cond, eqb, List, [], ◌∷◌, ◌++◌, map, length, get_or, take, ℤ, pos, negsuc, ◌+ℤ◌, ◌-ℤ◌, ◌*ℤ◌, neg_ℤ, Ok, Result, sym, refl, ap, ◌∙◌, subst, arith, lit<, w64, SFits, to_z, of_z}
 use borrow.Rule.Slice.PartMut.{put_mid}
 use Rattle.std.proofs.ByRecursion.{All-get_or}
 use Rattle.std.proofs.lemmas.List.{get_or_append_left, get_or-append_right, get_or-map, get_or-take, length-map, length-replicate, length-take-le, map-append}
 use Rattle.std.proofs.lemmas.Int.{ints, to_z-of_z}
-use Rattle.std.proofs.lemmas.Bool.{and_parts, and_from, eq-eqb}
+use Rattle.std.proofs.lemmas.Bool.{and_parts, and_from, eq-eqb, ne_eqb}
 use Rattle.arith.specs.Bounds.{Within}
-use Rattle.arith.proofs.Bounds.{sfits_within, negated_within, sum_read, difference_is, difference_fits}
+use Rattle.arith.proofs.Bounds.{sfits_within, sum_read, difference_is, difference_fits}
 use Rattle.control.specs.declared.fault.ControlFault.{ControlFault}
 use Rattle.control.specs.Answers.{no_row, present, region_of, row_of, row_answer, row_fills}
-use Rattle.control.specs.Meaning.{Meaning}
+use Rattle.control.specs.Meaning.{Row, Meaning}
 use Rattle.control.proofs.Outcomes.{there, row_found}
 use Rattle.case.specs.declared.values.StateEquation.{StateEquation}
 use Rattle.case.specs.declared.values.PushBounds.{PushBounds}
@@ -20,10 +20,10 @@ use Rattle.case.specs.Limits.{bound_limit, divisor_limit, constant_limit, leeway
 use Rattle.case.specs.Faces.{unit, box_faces, extra_face, faces}
 use Rattle.case.specs.System.{column_count, none, over_states, over_commands, push_rows, equation_row, next_rows}
 use Rattle.case.specs.Values.{CaseValues, state_count, push_count, equation_of, extra_of, values_of}
-use Rattle.system.specs.Filled.{filled}
-use Rattle.system.proofs.Stored.{RangeOk, EquationOk, ExtraOk, ok_equation, ok_bounds, ok_extras, states_are, pushes_are, extras_are}
-use Rattle.system.proofs.Counts.{box_count}
-use Rattle.system.proofs.Places.{unit_front, unit_within, front_long, front_filled, thrice_filled, paired_first, paired_second, high_face, low_face, box_paired, push_coefficients, high_push, low_push, push_paired, high_next, low_next, next_paired}
+use Rattle.case.proofs.Faces.{box_count}
+use Rattle.case.proofs.Stored.{RangeOk, EquationOk, ExtraOk, ok_equation, ok_bounds, ok_extras, states_are, pushes_are, extras_are}
+use Rattle.system.specs.Filled.{filled, bound_row}
+use Rattle.system.proofs.Places.{unit_front, unit_within, front_long, front_filled, thrice_filled, paired_row, by_turns, high_face, low_face, box_paired, push_coefficients, high_push, low_push, push_paired, high_next, low_next, next_paired}
 
 -- what stands past the end of an array of the case
 abbrev pub no_equation : StateEquation
@@ -99,33 +99,24 @@ unit_over k i z r lt =
     let e : n + (k.inputs + push_count k + n) ≡ column_count k = omega arith in
     ap (λ l. filled l r) (unit_front n (k.inputs + push_count k + n) i z lt ∙ ap (λ w. unit w i z) e)
 
-pub high_face_is : (c : Case) (j : ℕ) → j < 2 * c.states → j % 2 ≡ 0 → filled (unit (column_count (values_of c)) (j / 2) (pos 1)) (equation_at c (j / 2)).high ≡ over_states (values_of c) (get_or (faces (values_of c)) j no_row)
-high_face_is c j lt even =
-    let k = values_of c in
-    let n = state_count k in
-    let h : j < 2 * n = omega (arith, states_are c) in
-    let i : j / 2 < n = omega arith in
-    let z : 0 + j / 2 ≡ j / 2 = omega arith in
-    sym (ap (over_states k) (box_part c j lt
-    ∙ ap (λ rows. get_or rows j no_row) (box_paired n 0 k.equations)
-    ∙ paired_first (high_face n) (low_face n) 0 k.equations j no_equation h even
-    ∙ ap (λ t. high_face n t (get_or k.equations (j / 2) no_equation)) z
-    ∙ ap (high_face n (j / 2)) (equation_is c (j / 2) (omega arith)))
-    ∙ unit_over k (j / 2) (pos 1) (equation_at c (j / 2)).high i)
+over_turns : (k : CaseValues) (b : Bool) (h l : Row) → over_states k (cond b h l) ≡ cond b (over_states k h) (over_states k l)
+over_turns k true h l = refl
+over_turns k false h l = refl
 
-pub low_face_is : (c : Case) (j : ℕ) → j < 2 * c.states → (j % 2 ≡ 0 → ⊥) → filled (unit (column_count (values_of c)) (j / 2) (negsuc 0)) (neg_ℤ (equation_at c (j / 2)).low) ≡ over_states (values_of c) (get_or (faces (values_of c)) j no_row)
-low_face_is c j lt odd =
+pub box_row_is : (c : Case) (j : ℕ) → j < 2 * c.states → bound_row (column_count (values_of c)) (j / 2) (equation_at c (j / 2)).low (equation_at c (j / 2)).high j ≡ over_states (values_of c) (get_or (faces (values_of c)) j no_row)
+box_row_is c j lt =
     let k = values_of c in
     let n = state_count k in
-    let h : j < 2 * n = omega (arith, states_are c) in
-    let i : j / 2 < n = omega arith in
-    let z : 0 + j / 2 ≡ j / 2 = omega arith in
+    let b = eqb (j % 2) 0 in
+    let s = equation_at c (j / 2) in
+    let h : j < 2 * length k.equations = omega (arith, states_are c) in
+    let i : j / 2 < n = omega (arith, states_are c) in
     sym (ap (over_states k) (box_part c j lt
     ∙ ap (λ rows. get_or rows j no_row) (box_paired n 0 k.equations)
-    ∙ paired_second (high_face n) (low_face n) 0 k.equations j no_equation h odd
-    ∙ ap (λ t. low_face n t (get_or k.equations (j / 2) no_equation)) z
-    ∙ ap (low_face n (j / 2)) (equation_is c (j / 2) (omega arith)))
-    ∙ unit_over k (j / 2) (negsuc 0) (neg_ℤ (equation_at c (j / 2)).low) i)
+    ∙ paired_row (high_face n) (low_face n) k.equations j no_equation h
+    ∙ ap (λ t. cond b (high_face n (j / 2) t) (low_face n (j / 2) t)) (equation_is c (j / 2) (omega arith)))
+    ∙ over_turns k b (high_face n (j / 2) s) (low_face n (j / 2) s)
+    ∙ by_turns b _ _ _ _ (unit_over k (j / 2) (pos 1) s.high i) (unit_over k (j / 2) (negsuc 0) (neg_ℤ s.low) i))
 
 -- the rows of the pushes
 push_column : (c : Case) (j : ℕ) (z : ℤ) → j < c.pushes → push_coefficients (values_of c) j z ≡ unit (column_count (values_of c)) (c.states + c.inputs + j) z
@@ -138,29 +129,17 @@ push_column c j z lt =
     let f : n + k.inputs + j ≡ c.states + c.inputs + j = omega (arith, states_are c) in
     unit_within (n + k.inputs) p n j z h ∙ ap (λ w. unit w (n + k.inputs + j) z) e ∙ ap (λ t. unit (column_count k) t z) f
 
-pub high_push_is : (c : Case) (j : ℕ) → j < 2 * c.pushes → j % 2 ≡ 0 → filled (unit (column_count (values_of c)) (c.states + c.inputs + j / 2) (pos 1)) (push_at c (j / 2)).high ≡ get_or (push_rows (values_of c) 0 (values_of c).bounds) j no_row
-high_push_is c j lt even =
+pub push_row_is : (c : Case) (j : ℕ) → j < 2 * c.pushes → bound_row (column_count (values_of c)) (c.states + c.inputs + j / 2) (push_at c (j / 2)).low (push_at c (j / 2)).high j ≡ get_or (push_rows (values_of c) 0 (values_of c).bounds) j no_row
+push_row_is c j lt =
     let k = values_of c in
-    let h : j < 2 * push_count k = omega (arith, pushes_are c) in
+    let b = eqb (j % 2) 0 in
+    let p = push_at c (j / 2) in
+    let h : j < 2 * length k.bounds = omega (arith, pushes_are c) in
     let i : j / 2 < c.pushes = omega arith in
-    let z : 0 + j / 2 ≡ j / 2 = omega arith in
     sym (ap (λ rows. get_or rows j no_row) (push_paired k 0 k.bounds)
-    ∙ paired_first (high_push k) (low_push k) 0 k.bounds j no_push h even
-    ∙ ap (λ t. high_push k t (get_or k.bounds (j / 2) no_push)) z
-    ∙ ap (high_push k (j / 2)) (push_is c (j / 2) i)
-    ∙ ap (λ l. filled l (push_at c (j / 2)).high) (push_column c (j / 2) (pos 1) i))
-
-pub low_push_is : (c : Case) (j : ℕ) → j < 2 * c.pushes → (j % 2 ≡ 0 → ⊥) → filled (unit (column_count (values_of c)) (c.states + c.inputs + j / 2) (negsuc 0)) (neg_ℤ (push_at c (j / 2)).low) ≡ get_or (push_rows (values_of c) 0 (values_of c).bounds) j no_row
-low_push_is c j lt odd =
-    let k = values_of c in
-    let h : j < 2 * push_count k = omega (arith, pushes_are c) in
-    let i : j / 2 < c.pushes = omega arith in
-    let z : 0 + j / 2 ≡ j / 2 = omega arith in
-    sym (ap (λ rows. get_or rows j no_row) (push_paired k 0 k.bounds)
-    ∙ paired_second (high_push k) (low_push k) 0 k.bounds j no_push h odd
-    ∙ ap (λ t. low_push k t (get_or k.bounds (j / 2) no_push)) z
-    ∙ ap (low_push k (j / 2)) (push_is c (j / 2) i)
-    ∙ ap (λ l. filled l (neg_ℤ (push_at c (j / 2)).low)) (push_column c (j / 2) (negsuc 0) i))
+    ∙ paired_row (high_push k) (low_push k) k.bounds j no_push h
+    ∙ ap (λ t. cond b (high_push k (j / 2) t) (low_push k (j / 2) t)) (push_is c (j / 2) i)
+    ∙ by_turns b _ _ _ _ (ap (λ l. filled l p.high) (push_column c (j / 2) (pos 1) i)) (ap (λ l. filled l (neg_ℤ p.low)) (push_column c (j / 2) (negsuc 0) i)))
 
 -- the extra faces
 pub extra_face_is : (c : Case) (j : ℕ) → 2 * c.states ≤ j → j < 2 * c.states + c.extras → over_states (values_of c) (extra_face (extra_of c.states (extra_at c (j - 2 * c.states)))) ≡ over_states (values_of c) (get_or (faces (values_of c)) j no_row)
@@ -174,25 +153,23 @@ extra_face_is c j past lt =
     ∙ get_or-map extra_face k.extra i no_extra no_row h ∙ ap extra_face (extra_is c i (omega arith))))
 
 -- the rows of the next states
+next_row_is : (c : Case) (j : ℕ) → j < 2 * c.states → let s = equation_of c.states c.inputs c.pushes (equation_at c (j / 2)) in cond (eqb (j % 2) 0) (high_next (values_of c) (j / 2) s) (low_next (values_of c) (j / 2) s) ≡ get_or (next_rows (values_of c) 0 (values_of c).equations) j no_row
+next_row_is c j lt =
+    let k = values_of c in
+    let h : j < 2 * length k.equations = omega (arith, states_are c) in
+    sym (ap (λ rows. get_or rows j no_row) (next_paired k 0 k.equations)
+    ∙ paired_row (high_next k) (low_next k) k.equations j no_equation h
+    ∙ ap (λ t. cond (eqb (j % 2) 0) (high_next k (j / 2) t) (low_next k (j / 2) t)) (equation_is c (j / 2) (omega arith)))
+
 pub high_next_is : (c : Case) (j : ℕ) → j < 2 * c.states → j % 2 ≡ 0 → high_next (values_of c) (j / 2) (equation_of c.states c.inputs c.pushes (equation_at c (j / 2))) ≡ get_or (next_rows (values_of c) 0 (values_of c).equations) j no_row
 high_next_is c j lt even =
-    let k = values_of c in
-    let h : j < 2 * state_count k = omega (arith, states_are c) in
-    let z : 0 + j / 2 ≡ j / 2 = omega arith in
-    sym (ap (λ rows. get_or rows j no_row) (next_paired k 0 k.equations)
-    ∙ paired_first (high_next k) (low_next k) 0 k.equations j no_equation h even
-    ∙ ap (λ t. high_next k t (get_or k.equations (j / 2) no_equation)) z
-    ∙ ap (high_next k (j / 2)) (equation_is c (j / 2) (omega arith)))
+    let s = equation_of c.states c.inputs c.pushes (equation_at c (j / 2)) in
+    ap (λ b. cond b (high_next (values_of c) (j / 2) s) (low_next (values_of c) (j / 2) s)) (sym (eq-eqb _ _ even)) ∙ next_row_is c j lt
 
 pub low_next_is : (c : Case) (j : ℕ) → j < 2 * c.states → (j % 2 ≡ 0 → ⊥) → low_next (values_of c) (j / 2) (equation_of c.states c.inputs c.pushes (equation_at c (j / 2))) ≡ get_or (next_rows (values_of c) 0 (values_of c).equations) j no_row
 low_next_is c j lt odd =
-    let k = values_of c in
-    let h : j < 2 * state_count k = omega (arith, states_are c) in
-    let z : 0 + j / 2 ≡ j / 2 = omega arith in
-    sym (ap (λ rows. get_or rows j no_row) (next_paired k 0 k.equations)
-    ∙ paired_second (high_next k) (low_next k) 0 k.equations j no_equation h odd
-    ∙ ap (λ t. low_next k t (get_or k.equations (j / 2) no_equation)) z
-    ∙ ap (low_next k (j / 2)) (equation_is c (j / 2) (omega arith)))
+    let s = equation_of c.states c.inputs c.pushes (equation_at c (j / 2)) in
+    ap (λ b. cond b (high_next (values_of c) (j / 2) s) (low_next (values_of c) (j / 2) s)) (sym (ne_eqb _ _ odd)) ∙ next_row_is c j lt
 
 -- a row from its parts
 pub same_row : (l l' : List ℤ) (r r' : ℤ) → l ≡ l' → r ≡ r' → filled l r ≡ filled l' r'
@@ -201,12 +178,6 @@ same_row l l' r r' e f = ap (λ t. filled t r) e ∙ ap (filled l') f
 -- numbers as the code reads and negates them
 pub bound_read : (z : ℤ) → Within bound_limit z → to_z w64 (of_z w64 z) ≡ z
 bound_read z w = to_z-of_z w64 z (sfits_within bound_limit z (lit< tt) w)
-
-pub negated_fits : (m : ℕ) (z : ℤ) → m < 2 ^ 63 → Within m z → SFits w64 (pos 0 -ℤ to_z w64 (of_z w64 z))
-negated_fits m z lt w =
-    let f = sfits_within m z lt w in
-    let e : pos 0 -ℤ to_z w64 (of_z w64 z) ≡ neg_ℤ z = omega (arith, ints) in
-    subst (SFits w64) (sym e) (sfits_within m (neg_ℤ z) lt (negated_within m z w))
 
 -- the right sides of the rows of a next state, as the code computes them
 pub up_is : (s : StateEquation) → EquationOk s → (to_z w64 (of_z w64 (to_z w64 (of_z w64 s.constant) +ℤ to_z w64 (of_z w64 s.leeway))) ≡ s.constant +ℤ s.leeway) × SFits w64 (to_z w64 (of_z w64 s.constant) +ℤ to_z w64 (of_z w64 s.leeway))

@@ -7,8 +7,9 @@ use Rattle.case.specs.declared.values.Case.{Case}
 use Rattle.case.specs.Faces.{faces}
 use Rattle.case.specs.System.{over_states, over_commands, push_rows, next_rows, system}
 use Rattle.case.specs.Values.{CaseValues, values_of}
-use Rattle.system.proofs.Stored.{states_are, pushes_are, extras_are}
-use Rattle.system.proofs.Counts.{faces_count, push_rows_count, case_rows}
+use Rattle.case.proofs.Faces.{faces_count}
+use Rattle.case.proofs.Stored.{states_are, pushes_are, extras_are}
+use Rattle.system.proofs.Counts.{push_rows_count, case_rows}
 
 -- the groups after the faces, and after the region's rows
 abbrev after_faces : CaseValues → List Row → List Row

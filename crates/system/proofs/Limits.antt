@@ -16,9 +16,10 @@ use Rattle.case.specs.Limits.{bound_limit}
 use Rattle.case.specs.Faces.{unit, box_faces, extra_face, faces}
 use Rattle.case.specs.System.{column_count, none, over_states, over_commands, push_rows, equation_row, next_rows, system}
 use Rattle.case.specs.Values.{CaseValues, state_count, push_count, equation_of, extra_of, values_of}
+use Rattle.case.proofs.Stored.{RangeOk, EquationOk, ExtraOk, ok_bounds, states_are, stored_equations, stored_extras}
 use Rattle.system.proofs.Rows.{EquationWide}
 use Rattle.system.proofs.Bridged.{Wide, unit_long}
-use Rattle.system.proofs.Stored.{RangeOk, EquationOk, ExtraOk, ok_bounds, states_are, stored_equations, stored_extras, case_wide}
+use Rattle.system.proofs.Stored.{case_wide}
 
 -- a coefficient list within its limit
 abbrev Small : List ℤ → Type 0

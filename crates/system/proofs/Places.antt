@@ -1,8 +1,7 @@
 -- Lists of coefficients in parts, and rows that come in pairs.
-use Rattle.std.proofs.Common.{◌≡◌, ℕ, zero, suc, ◌+◌, ◌-◌, ◌*◌, ◌/◌, ◌%◌, ◌<◌, ◌≤◌, List, [], ◌∷◌, ◌++◌, map, length, get_or, take, drop, set, ℤ, pos, negsuc, ◌+ℤ◌, ◌-ℤ◌, ◌*ℤ◌, neg_ℤ, sym, refl, ap, ◌∙◌, arith}
+use Rattle.std.proofs.Common.{◌≡◌, ℕ, zero, suc, ◌+◌, ◌-◌, ◌*◌, ◌/◌, ◌%◌, ◌<◌, ◌≤◌, Bool, true, false, cond, eqb, List, [], ◌∷◌, ◌++◌, length, get_or, take, drop, set, ℤ, pos, negsuc, ◌+ℤ◌, ◌-ℤ◌, neg_ℤ, sym, refl, ap, ◌∙◌, arith}
 use borrow.Rule.Slice.PartMut.{put_mid}
-use Rattle.std.proofs.lemmas.List.{append_assoc, length-append, length-drop, length-replicate, length-take-le, take_at, drop_at, drop-replicate, set-append_left, set-append_right, replicate-append-replicate}
-use Rattle.std.proofs.lemmas.Int.{ints}
+use Rattle.std.proofs.lemmas.List.{append_assoc, length-append, length-replicate, length-take-le, take_at, drop_at, drop-replicate, set-append_left, set-append_right, replicate-append-replicate}
 use Rattle.control.specs.Answers.{no_row}
 use Rattle.control.specs.Meaning.{Row}
 use Rattle.case.specs.declared.values.StateEquation.{StateEquation}
@@ -27,14 +26,9 @@ unit_back r n i z =
 pub unit_within : (a p n j : ℕ) (z : ℤ) → j < p → none a ++ (unit p j z ++ none n) ≡ unit (a + (p + n)) (a + j) z
 unit_within a p n j z lt = ap (λ l. none a ++ l) (unit_front p n j z lt) ∙ unit_back a (p + n) j z
 
--- the first e of a list, and the k after the first a, as the code takes them
+-- the first e of a list, as the code takes them
 pub front_long : (e : ℕ) (xs : List ℤ) → e ≤ length xs → length (take (e - 0) xs) ≡ e
 front_long e xs le = let h : e - 0 ≤ length xs = omega arith in length-take-le (e - 0) xs h ∙ omega arith
-
-pub middle_long : (a k : ℕ) (xs : List ℤ) → a + k ≤ length xs → length (take (a + k - a) (drop a xs)) ≡ k
-middle_long a k xs le =
-    let h : a + k - a ≤ length (drop a xs) = omega (arith, length-drop a xs) in
-    length-take-le (a + k - a) (drop a xs) h ∙ omega arith
 
 -- what a write to a part leaves
 pub overwrite : (a k : ℕ) (pre mid post new : List ℤ) → length pre ≡ a → length mid ≡ k → put_mid a k (pre ++ (mid ++ post)) new ≡ pre ++ (new ++ post)
@@ -71,33 +65,33 @@ thrice_filled n m p q i z A B E ea eb ee =
     ap (λ l. put_mid (n + m) (n + m + p - (n + m)) (put_mid n (n + m - n) l B) E) one
     ∙ ap (λ l. put_mid (n + m) (n + m + p - (n + m)) l E) two ∙ three ∙ sym (append_assoc (A ++ B) E U) ∙ ap (λ l. l ++ U) (append_assoc A B E)
 
--- coefficients multiplied by 1
-pub map_one : (xs : List ℤ) → map (λ z. pos 1 *ℤ z) xs ≡ xs
-map_one [] = refl
-map_one (x ∷ xs) = let e : pos 1 *ℤ x ≡ x = omega (arith, ints) in ap (λ z. z ∷ map (λ y. pos 1 *ℤ y) xs) e ∙ ap (λ l. x ∷ l) (map_one xs)
-
 -- two rows for each of a list of things, by their place
 abbrev pub paired : {X : Type 0} → (ℕ → X → Row) → (ℕ → X → Row) → ℕ → List X → List Row
 paired f g i [] = []
 paired f g i (x ∷ xs) = f i x ∷ g i x ∷ paired f g (suc i) xs
 
-pub paired_first : {X : Type 0} (f g : ℕ → X → Row) (i : ℕ) (xs : List X) (j : ℕ) (d : X) → j < 2 * length xs → j % 2 ≡ 0 → get_or (paired f g i xs) j no_row ≡ f (i + j / 2) (get_or xs (j / 2) d)
-paired_first f g i [] j d lt e = absurd (omega arith)
-paired_first f g i (x ∷ xs) zero d lt e = let h : i ≡ i + 0 / 2 = omega arith in ap (λ t. f t x) h
-paired_first f g i (x ∷ xs) (suc zero) d lt e = absurd (omega arith)
-paired_first f g i (x ∷ xs) (suc (suc j)) d lt e =
+paired_at : {X : Type 0} (f g : ℕ → X → Row) (i : ℕ) (xs : List X) (j : ℕ) (d : X) → j < 2 * length xs → get_or (paired f g i xs) j no_row ≡ cond (eqb (j % 2) 0) (f (i + j / 2) (get_or xs (j / 2) d)) (g (i + j / 2) (get_or xs (j / 2) d))
+paired_at f g i [] j d lt = absurd (omega arith)
+paired_at f g i (x ∷ xs) zero d lt = let h : i ≡ i + 0 / 2 = omega arith in ap (λ t. f t x) h
+paired_at f g i (x ∷ xs) (suc zero) d lt = let h : i ≡ i + 1 / 2 = omega arith in ap (λ t. g t x) h
+paired_at f g i (x ∷ xs) (suc (suc j)) d lt =
     let h : suc i + j / 2 ≡ i + suc (suc j) / 2 = omega arith in
     let q : suc (j / 2) ≡ suc (suc j) / 2 = omega arith in
-    paired_first f g (suc i) xs j d (omega arith) (omega arith) ∙ ap (λ t. f t (get_or xs (j / 2) d)) h ∙ ap (λ t. f (i + suc (suc j) / 2) (get_or (x ∷ xs) t d)) q
+    let p : j % 2 ≡ suc (suc j) % 2 = omega arith in
+    let one = λ (b : ℕ) (t u : ℕ). cond (eqb b 0) (f t (get_or (x ∷ xs) u d)) (g t (get_or (x ∷ xs) u d)) in
+    paired_at f g (suc i) xs j d (omega arith)
+    ∙ ap (λ t. one (j % 2) t (suc (j / 2))) h ∙ ap (one (j % 2) (i + suc (suc j) / 2)) q ∙ ap (λ b. one b (i + suc (suc j) / 2) (suc (suc j) / 2)) p
 
-pub paired_second : {X : Type 0} (f g : ℕ → X → Row) (i : ℕ) (xs : List X) (j : ℕ) (d : X) → j < 2 * length xs → (j % 2 ≡ 0 → ⊥) → get_or (paired f g i xs) j no_row ≡ g (i + j / 2) (get_or xs (j / 2) d)
-paired_second f g i [] j d lt e = absurd (omega arith)
-paired_second f g i (x ∷ xs) zero d lt e = absurd (e (omega arith))
-paired_second f g i (x ∷ xs) (suc zero) d lt e = let h : i ≡ i + 1 / 2 = omega arith in ap (λ t. g t x) h
-paired_second f g i (x ∷ xs) (suc (suc j)) d lt e =
-    let h : suc i + j / 2 ≡ i + suc (suc j) / 2 = omega arith in
-    let q : suc (j / 2) ≡ suc (suc j) / 2 = omega arith in
-    paired_second f g (suc i) xs j d (omega arith) (λ t. e (omega arith)) ∙ ap (λ t. g t (get_or xs (j / 2) d)) h ∙ ap (λ t. g (i + suc (suc j) / 2) (get_or (x ∷ xs) t d)) q
+-- where the things count from 0
+pub paired_row : {X : Type 0} (f g : ℕ → X → Row) (xs : List X) (j : ℕ) (d : X) → j < 2 * length xs → get_or (paired f g 0 xs) j no_row ≡ cond (eqb (j % 2) 0) (f (j / 2) (get_or xs (j / 2) d)) (g (j / 2) (get_or xs (j / 2) d))
+paired_row f g xs j d lt =
+    let h : 0 + j / 2 ≡ j / 2 = omega arith in
+    paired_at f g 0 xs j d lt ∙ ap (λ t. cond (eqb (j % 2) 0) (f t (get_or xs (j / 2) d)) (g t (get_or xs (j / 2) d))) h
+
+-- rows that equal by turns
+pub by_turns : (b : Bool) (h h' l l' : Row) → h ≡ h' → l ≡ l' → cond b h l ≡ cond b h' l'
+by_turns true h h' l l' e f = e
+by_turns false h h' l l' e f = f
 
 -- the faces of the box, the rows of the pushes and those of the next states
 abbrev pub high_face : ℕ → ℕ → StateEquation → Row

@@ -2,3 +2,4 @@
 pub mod Bridge
 pub mod Answers
 pub mod Filled
+pub mod Systems

@@ -1,17 +1,17 @@
-// One row of each kind: faces of the box, extra faces, rows of the region, pushes and next states. Rows count from 0 here.
+// One row of each kind that a case gives: faces of the box, extra faces, pushes and next states. Rows count from 0 here.
+// The length of the list stands in each contract: a struct can hold no fact about a list that it lends to be written. So does
+// that there is a row j: each kind has another number of rows.
 ghost use Rattle.std.specs.Prelude.{◌≡◌, ◌+◌, ◌*◌, ◌<◌, ◌≤◌, true, length, slice_index_or};
 ghost use Rattle.arith.specs.Bounds.{Within};
-ghost use Rattle.control.specs.Meaning.{meaning};
-ghost use Rattle.control.specs.Answers.{present, region_of, no_row};
+ghost use Rattle.control.specs.Answers.{no_row};
 ghost use Rattle.case.specs.Limits.{equation_ok};
 ghost use Rattle.case.specs.Faces.{faces};
-ghost use Rattle.case.specs.System.{column_count, over_states, over_commands, push_rows, equation_row, next_rows};
+ghost use Rattle.case.specs.System.{column_count, over_states, push_rows, equation_row, next_rows};
 ghost use Rattle.case.specs.Values.{values_of, equation_of};
 ghost use Rattle.system.specs.Filled.{filled};
 
-use super::fill::{clear, fill_scaled, fill_unit};
+use super::fill::{bound_row, fill_scaled, fill_unit};
 use case::values::{Case, StateEquation};
-use control::Controller;
 
 // Face j, one of the box.
 pub(crate) fn box_row(case: &Case, j: usize, coefficients: &mut [i64]) -> i64
@@ -20,12 +20,7 @@ pub(crate) fn box_row(case: &Case, j: usize, coefficients: &mut [i64]) -> i64
     ensures { let k = values_of case.now in filled coefficients.new result ≡ over_states k (slice_index_or (faces k) j no_row) }
 {
     let state = case.equations[j / 2];
-    if j % 2 == 0 {
-        fill_unit(j / 2, 1, coefficients);
-        return state.high;
-    }
-    fill_unit(j / 2, -1, coefficients);
-    -state.low
+    bound_row(j / 2, state.low, state.high, j, coefficients)
 }
 
 // Row j of the pushes.
@@ -36,12 +31,7 @@ pub(crate) fn push_row(case: &Case, j: usize, coefficients: &mut [i64]) -> i64
 {
     let push = case.bounds[j / 2];
     let column = case.states + case.inputs + j / 2;
-    if j % 2 == 0 {
-        fill_unit(column, 1, coefficients);
-        return push.high;
-    }
-    fill_unit(column, -1, coefficients);
-    -push.low
+    bound_row(column, push.low, push.high, j, coefficients)
 }
 
 // Face j, an extra one.
@@ -53,31 +43,9 @@ pub(crate) fn extra_row(case: &Case, j: usize, coefficients: &mut [i64]) -> i64
 {
     let n = case.states;
     let face = case.extra[j - 2 * n];
-    clear(coefficients);
-    fill_scaled(1, &face.coefficients[0..n], &mut coefficients[0..n]);
+    coefficients.fill(0);
+    coefficients[0..n].copy_from_slice(&face.coefficients[0..n]);
     face.right
-}
-
-// Row j of the region.
-pub(crate) fn region_row<C: Controller>(
-    case: &Case,
-    controller: &C,
-    region: usize,
-    j: usize,
-    coefficients: &mut [i64],
-) -> i64
-    requires states { C.states controller.now ≡ case.now.states }
-    requires inputs { C.inputs controller.now ≡ case.now.inputs }
-    requires region { present (C.partition controller.now) region ≡ true }
-    requires place { let c = controller.now in j < length (region_of (meaning (C.states c) (C.inputs c) (C.partition c) (C.feedback c)) region) }
-    requires long { length coefficients.old ≡ column_count (values_of case.now) }
-    ensures { let c = controller.now in filled coefficients.new result ≡ over_commands (values_of case.now) (slice_index_or (region_of (meaning (C.states c) (C.inputs c) (C.partition c) (C.feedback c)) region) j no_row) }
-{
-    clear(coefficients);
-    let width = case.states + case.inputs;
-    controller
-        .row(region, j + 1, &mut coefficients[0..width])
-        .unwrap()
 }
 
 // Writes sign × the rows of an equation, and its own coefficient at the next state i.

@@ -1,12 +1,12 @@
-use Rattle.std.proofs.Common.{◌≡◌, ℕ, zero, suc, ◌+◌, ◌-◌, ◌*◌, ◌^◌, ◌<◌, ◌≤◌, min, true, false, cond, ◌&&◌, eqb, List, [], ◌∷◌, length, get_or, take, drop, ℤ, pos, negsuc, ◌-ℤ◌, Some, None, Ok, Err, Option, sym, refl, ap, ◌∙◌, arith, w64, SFits}
+use Rattle.std.proofs.Common.{◌≡◌, ℕ, ◌+◌, ◌-◌, ◌*◌, ◌^◌, ◌<◌, ◌≤◌, min, true, false, cond, ◌&&◌, List, [], ◌∷◌, length, get_or, drop, ℤ, pos, negsuc, Some, None, Ok, Err, Option, sym, refl, ap, ◌∙◌, arith, w64, SFits}
 use lib.Signed.{le_z}
 use Rattle.std.proofs.lemmas.Int.{ints}
 use Rattle.text.specs.declared.faults.FieldFault.TheVariants.{Malformed, Outside}
-use Rattle.std.proofs.lemmas.List.{at_drop_more, at_drop_all, take_rest}
+use Rattle.std.proofs.lemmas.List.{at_drop_more, at_drop_all}
 use Rattle.std.specs.Option.{option_map}
 use Rattle.std.proofs.lemmas.Bool.Decides.{nat_tests}
 use Rattle.text.specs.Bytes.{is_digit, class_of}
-use Rattle.text.specs.Numbers.{digits_after, magnitude_of, capped, clipped, negated, number_of, within}
+use Rattle.text.specs.Numbers.{digits_after, magnitude_of, capped, clipped, within}
 use Rattle.text.specs.declared.bytes.ByteClass.TheVariants.{Digit}
 
 pub cap_step : (n m d : ℕ) → capped n ≡ capped m → capped (n * 10 + d) ≡ capped (m * 10 + d)
@@ -55,29 +55,6 @@ finished ds i v r h f inv =
     let z : option_map capped (digits_after v (drop i ds)) ≡ Some (capped v) = at_drop_all (λ xs. option_map capped (digits_after v xs)) ds i h in
     let y : v ≡ capped v = omega arith in
     ap Some y ∙ sym z ∙ inv
-
-pub minus_front : (bs ds : List ℕ) → 0 < length bs → get_or bs 0 0 ≡ 45 → ds ≡ take (length bs - 1) (drop 1 bs) → number_of bs ≡ negated (magnitude_of ds)
-minus_front [] ds h e q = absurd (omega arith)
-minus_front (b ∷ bs) ds h e q =
-    let p : eqb b 45 ≡ true = grind (arith, nat_tests) in
-    let z : ds ≡ bs = q ∙ take_rest (b ∷ bs) 1 in
-    rw p (ap (λ xs. negated (magnitude_of xs)) (sym z))
-
-pub negated_none : (o : Option ℕ) → None ≡ option_map capped o → None ≡ option_map clipped (negated o)
-negated_none None e = refl
-negated_none (Some n) e = grind arith
-
-pub negated_zero : (o : Option ℕ) → Some 0 ≡ option_map capped o → None ≡ option_map clipped (negated o)
-negated_zero None e = refl
-negated_zero (Some zero) e = refl
-negated_zero (Some (suc n)) e = grind arith
-
-pub negated_some : (o : Option ℕ) (m : ℕ) → Some m ≡ option_map capped o → (m ≡ 0 → ⊥) → Some (pos 0 -ℤ pos m) ≡ option_map clipped (negated o)
-negated_some None m e h = grind arith
-negated_some (Some zero) m e h = grind arith
-negated_some (Some (suc n)) m e h =
-    let k : m ≡ capped (suc n) = grind arith in
-    ap Some (omega (arith, ints))
 
 pub outside : (low high n : ℤ) (o : Option ℤ) → SFits w64 low → SFits w64 high → Some n ≡ option_map clipped o
     → (le_z low n && le_z n high) ≡ false → Err Outside ≡ within low high o

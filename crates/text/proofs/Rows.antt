@@ -2,7 +2,7 @@
 use Rattle.std.proofs.Common.{◌≡◌, ℕ, ◌+◌, ◌-◌, ◌<◌, ◌≤◌, List, [], ◌∷◌, ◌++◌, length, get_or, take, drop, set, replicate, ℤ, pos, IsErrAnd, Some, Ok, Err, Option, Result, sym, refl, ap, ◌∙◌, append_assoc, arith}
 use Rattle.std.proofs.lemmas.List.{at_drop_more, at_drop_all, take_more_set, drop-set-lt, drop-drop, drop-replicate, length-take-le, append-nil, take-append-drop}
 use Rattle.std.proofs.lemmas.Result.{err_from_is_err_and}
-use Rattle.text.specs.Lines.{numbers_of, next_number, after_field, end_of, bind, place, row_width, padded_to, padded, padded_line, cut_at, row_of, numbers_by, numbers_line}
+use Rattle.text.specs.Lines.{numbers_of, next_number, after_field, end_of, bind, place, padded_to, padded, padded_line, cut_at, row_of, numbers_by, numbers_line, row_width}
 use Rattle.text.specs.Bytes.{line_feed}
 use Rattle.text.specs.declared.number.Limit.{Limit}
 use Rattle.text.specs.declared.faults.TextFault.{TextFault}
@@ -67,10 +67,6 @@ row_full_to w i row le e =
     let l : length (take i row) ≡ i = length-take-le i row le in
     sym (take-append-drop i row) ∙ ap (λ t. take i row ++ t) (e ∙ ap (λ n. replicate (w - n) (pos 0)) (sym l)) ∙ ap (padded_to w) (sym (append-nil (take i row)))
 
--- the numbers so far, and zeros behind them
-pub row_full : (i : ℕ) (row : List ℤ) → i ≤ length row → drop i row ≡ replicate (row_width - i) (pos 0) → row ≡ padded (take i row ++ [])
-row_full i row le e = row_full_to row_width i row le e
-
 padded_err : (r : Result (List ℤ) TextFault) (e : TextFault) (rest : List ℕ) → Err e ≡ bind r (λ zs. Ok (padded zs)) → Err e ≡ padded_line (bind r (λ zs. Ok (zs, rest)))
 padded_err (Ok zs) e rest h = grind arith
 padded_err (Err d) e rest h = let k : e ≡ d = cc in ap Err k
@@ -100,3 +96,7 @@ padded_line_ok (Ok p) row rest h =
     let k : ◌≡◌ {A = List ℤ × List ℕ} (row, rest) (padded p.0, p.1) = cc in
     (p.0, ap (λ t. Ok (p.0, t)) (sym (ap (λ t. t.1) k)), ap (λ t. t.0) k)
 padded_line_ok (Err d) row rest h = grind arith
+
+-- the numbers so far, and zeros behind them
+pub row_full : (i : ℕ) (row : List ℤ) → i ≤ length row → drop i row ≡ replicate (row_width - i) (pos 0) → row ≡ padded (take i row ++ [])
+row_full i row le e = row_full_to row_width i row le e

@@ -1,6 +1,9 @@
+pub mod Blocks
 pub mod Bytes
+pub mod Causes
 pub mod Forms
 pub mod Left
+pub mod Limits
 pub mod Lines
 pub mod Numbers
 pub mod Render

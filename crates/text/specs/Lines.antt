@@ -75,21 +75,6 @@ numbers_of line field (l ∷ ls) left =
     bind (next_number (place line field) l left) (λ z.
     bind (numbers_of line (field + 1) ls (after_field left)) (λ zs. Ok (z ∷ zs)))
 
--- the most numbers of one row, and a row with zeros up to that many
-abbrev pub row_width : ℕ
-row_width = 8
-
-abbrev pub padded : List ℤ → List ℤ
-padded zs = zs ++ replicate (row_width - length zs) (pos 0)
-
--- a row of numbers behind the fields that stand before it
-abbrev pub row_of : ℕ → ℕ → List Limit → Option (List ℕ) → Result (List ℤ) TextFault
-row_of line before limits left = bind (numbers_of line (before + 1) limits left) (λ zs. Ok (padded zs))
-
--- the most numbers of a long row
-abbrev pub long_row_width : ℕ
-long_row_width = 41
-
 -- zeros up to so many places
 abbrev pub padded_to : ℕ → List ℤ → List ℤ
 padded_to width zs = zs ++ replicate (width - length zs) (pos 0)
@@ -97,6 +82,20 @@ padded_to width zs = zs ++ replicate (width - length zs) (pos 0)
 -- a row of so many places, with the numbers behind the fields that stand before it
 abbrev pub wide_row_of : ℕ → ℕ → ℕ → List Limit → Option (List ℕ) → Result (List ℤ) TextFault
 wide_row_of width line before limits left = bind (numbers_of line (before + 1) limits left) (λ zs. Ok (padded_to width zs))
+
+-- the most numbers of a row, and of a long row
+abbrev pub row_width : ℕ
+row_width = 8
+
+abbrev pub long_row_width : ℕ
+long_row_width = 41
+
+-- a row of eight places
+abbrev pub padded : List ℤ → List ℤ
+padded = padded_to row_width
+
+abbrev pub row_of : ℕ → ℕ → List Limit → Option (List ℕ) → Result (List ℤ) TextFault
+row_of = wide_row_of row_width
 
 -- a whole line of numbers, and the text after it
 abbrev pub numbers_by : ℕ → List Limit → Option (List ℕ × List ℕ) → Result (List ℤ × List ℕ) TextFault

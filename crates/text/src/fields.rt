@@ -1,5 +1,5 @@
 // The fields of a line, from left to right.
-ghost use Rattle.std.specs.Prelude.{◌≡◌, ◌≤◌, cond, length, take, ◌≤ℤ◌, is_ok, IfOk, Some};
+ghost use Rattle.std.specs.Prelude.{◌≡◌, ◌≤◌, cond, length, take, ◌≤ℤ◌, ◌==◌, is_ok, IfOk, Some, position};
 ghost use Rattle.std.specs.Option.{option_map};
 ghost use Rattle.text.specs.Left.{left_of};
 ghost use Rattle.text.specs.Lines.{cut_at, split_field, next_field, next_number, after_field, end_of, row_of, wide_row_of, row_width, long_row_width};
@@ -7,22 +7,25 @@ ghost use Rattle.text.specs.Lines.{cut_at, split_field, next_field, next_number,
 use crate::faults::{FieldFault, Place, TextFault};
 use crate::number::{Limit, field_number};
 
-// The most numbers of one row.
+// The most numbers of one row. Rows are arrays of fixed widths, with zeros behind the numbers, as nothing is allocated.
 pub const ROW_WIDTH: usize = 8;
 
 // The most numbers of a long row.
 pub const LONG_ROW_WIDTH: usize = 41;
 
+// Where the first byte `at` of a text stands.
+fn place_of(text: &[u8], at: u8) -> Option<usize>
+    ensures { result ≡ position (λ b. b == at) text.now }
+{
+    text.iter().position(|b| *b == at)
+}
+
 // What stands before the first byte `at` of a text, and what stands after it.
 pub fn cut(text: &[u8], at: u8) -> Option<(&[u8], &[u8])>
     ensures { option_map (λ p. (p.0.now, p.1.now)) result ≡ cut_at at text.now }
 {
-    for (i, b) in text.iter().enumerate() {
-        if *b == at {
-            return Some((&text[0..i], &text[i + 1..]));
-        }
-    }
-    None
+    let i = place_of(text, at)?;
+    Some((&text[..i], &text[i + 1..]))
 }
 
 // The first field of what is left of a line, and what is left then: nothing after the last field.
@@ -83,13 +86,9 @@ impl<'a> Fields<'a> {
             return Err(TextFault::Field(place, FieldFault::Malformed));
         };
         let (field, left) = split_field(rest);
-        match field_number(field, limit) {
-            Ok(number) => {
-                self.rest = left;
-                Ok(number)
-            }
-            Err(fault) => Err(TextFault::Field(place, fault)),
-        }
+        let number = field_number(field, limit).map_err(|fault| TextFault::Field(place, fault))?;
+        self.rest = left;
+        Ok(number)
     }
 
     // Whether the line has no field more, told at the place where one would stand.
@@ -115,6 +114,7 @@ impl<'a> Fields<'a> {
     {
         let used = row_limits::<N>(limits);
         let mut row = [0; N];
+        // Written by index: what an adapter of `iter_mut` writes is not known to the proof afterwards.
         for (i, limit) in used.iter().enumerate() {
             let field = u32::from(before) + i as u32 + 1;
             row[i] = self.number(Place { line, field }, *limit)?;
@@ -125,7 +125,8 @@ impl<'a> Fields<'a> {
     }
 
     // The numbers of the fields that are left, one for each limit up to the eighth, then zeros; `before` fields of the
-    // line stand before them.
+    // line stand before them. The two widths of lines stand as calls of their own: they ask nothing of the width.
+    // Line, fields before and limits are no struct: nothing else is asked of the three.
     pub fn row(self, line: u32, before: u8, limits: &[Limit]) -> Result<[i64; 8], TextFault>
         ensures { result ≡ row_of line before (take row_width limits.now) (left_of self.entry) }
     {

@@ -1,6 +1,5 @@
 // The lines of a text.
 ghost use Rattle.std.specs.Prelude.{◌≡◌, take};
-ghost use Rattle.std.specs.Str.{bytes_eq};
 ghost use Rattle.text.specs.Forms.{NamesForm, RowForm};
 ghost use Rattle.text.specs.Lines.{size_of, names_line, numbers_line, padded_line, row_width, held, with_rest};
 
@@ -21,20 +20,14 @@ pub fn sized(text: &[u8]) -> Result<(), TextFault>
     Ok(())
 }
 
-// Whether two texts are the same, byte for byte.
-pub fn same(a: &[u8], b: &[u8]) -> bool
-    ensures { result ≡ bytes_eq a.now b.now }
-{
-    a == b
-}
-
-// The text after a line of just these names.
+// The text after a line of just these names. Text and line are two parameters here and below: a cursor of both would need
+// an invariant on its counter, and so ask more of callers.
 pub fn names_line<'a>(text: &'a [u8], line: u32, names: &[u8]) -> Result<&'a [u8], TextFault>
     ensures value { held result ≡ names_line line names.now text.now }
     ensures form { NamesForm names.now text.now }
 {
     match cut(text, b'\n') {
-        Some((bytes, rest)) if same(bytes, names) => Ok(rest),
+        Some((bytes, rest)) if bytes == names => Ok(rest),
         _ => Err(TextFault::Line(line)),
     }
 }

@@ -14,7 +14,8 @@ pub struct Limit {
     pub high: i64,
 }
 
-// The number that digits write, as far as 64 bits hold it.
+// The number that digits write, as far as 64 bits hold it. Not by `parse`: that takes a plus sign and leading zeros, and has
+// no number for digits that 64 bits do not hold.
 fn magnitude(digits: &[u8]) -> Option<u64>
     ensures { result ≡ option_map capped (magnitude_of digits.now) }
 {

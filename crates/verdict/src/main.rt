@@ -17,6 +17,7 @@ fn fill(rt: &HostRuntime, buffer: &mut [u8]) -> anyhow::Result<usize>
 {
     let mut input = rt.stdin();
     let mut len = 0;
+    // A turn may give less than there is; the bound on the turns makes reading end. A fixed buffer, as nothing is allocated.
     for _ in 0..MOST_READ {
         if len >= buffer.len() {
             break;

@@ -14,7 +14,11 @@ use Rattle.control.specs.Meaning.{Meaning, meaning}
 use Rattle.control.specs.Limits.{setting_limit, most_states, most_inputs, coefficient_limit, command_limit, Limits, RowLimits}
 use Rattle.control.specs.Cover.{Holds, Cover}
 use Rattle.control.specs.Lines.{line, row_from}
+use Rattle.control.specs.PerInput.{items}
+use Rattle.control.specs.declared.state.States.{States}
+use Rattle.control.specs.declared.per_input.PerInput.{PerInput}
 use Rattle.control.specs.Fixed.{fixed_lines, fixed_partition}
+use Rattle.control.specs.Lawful.Few.{items_few}
 use Rattle.control.specs.Lawful.Spread.{dot_spread, row_limits}
 
 abbrev pub fixed_meaning : ℕ → ℕ → List ℤ → Meaning
@@ -29,7 +33,7 @@ pub record FixedOk (n m : ℕ) (us : List ℤ) : Type 0 where
   pub long : length us ≡ m
   pub small : AllByRecursion (Within setting_limit) us
 
--- what the limits of its fields give
+-- what the limits of numbers give
 pub ok_from : (n m : ℕ) (us : List ℤ) → (1 ≤ n) × (n ≤ most_states) × (1 ≤ m) × (m ≤ most_inputs) → length us ≡ 2 → all_within setting_limit us ≡ true → FixedOk n m (take m us)
 ok_from n m us sizes two small =
     let le : m ≤ length us = omega arith in
@@ -40,6 +44,19 @@ ok_from n m us sizes two small =
       m_high = sizes.3;
       long = length-take-le m us le;
       small = All-take (Within setting_limit) m us (all_from_test setting_limit us small);
+    }
+
+-- what a fixed law knows of itself
+pub ok_held : (n : States) (p : PerInput ℤ) → all_within setting_limit (items p) ≡ true → FixedOk n.count (length (items p)) (items p)
+ok_held n p small =
+    let few = items_few p in
+    record {
+      n_low = n.some;
+      n_high = n.few;
+      m_low = few.0;
+      m_high = few.1;
+      long = refl;
+      small = all_from_test setting_limit (items p) small;
     }
 
 lines_hold : (n m j : ℕ) (u : ℤ) (x us : List ℤ) → length x ≡ n → j < m → length us ≡ m → get_or us j (pos 0) ≡ u → AllByRecursion (Holds (x ++ us)) (map (row_from (replicate n (pos 0)) m j) (fixed_lines u))

@@ -22,9 +22,15 @@ use Rattle.control.specs.declared.lines.Line.{Line}
 use Rattle.control.specs.Meaning.{Meaning, meaning}
 use Rattle.control.specs.Limits.{most_states, most_inputs, most_regions, coefficient_limit, right_limit, command_limit, setting_limit, State, Limits, RowLimits, RegionLimits}
 use Rattle.control.specs.Cover.{Holds, Cover}
+use Rattle.control.specs.declared.input.Limited.{Limited}
+use Rattle.control.specs.declared.state.States.{States}
+use Rattle.control.specs.declared.per_input.PerInput.{PerInput}
+use Rattle.control.specs.PerInput.{items}
+use Rattle.control.specs.Held.{inputs_of}
 use Rattle.control.specs.Lines.{line, spread, row_from, stacked}
 use Rattle.control.specs.Saturated.{inputs_ok, offset_limit, value, quotient, part, low_edge, high_edge, digit_of, lines, radix, number, numbered, region_lines, gains_at, region_rows, index_of, digits_at, saturated_command, saturated_partition}
-use Rattle.control.specs.Lawful.Inputs.{InputOk, ok_inputs, gains_long, gains_within, rights}
+use Rattle.control.specs.Lawful.Inputs.{InputOk, ok_input, ok_inputs, gains_long, gains_within, rights}
+use Rattle.control.specs.Lawful.Few.{items_few}
 use Rattle.control.specs.Lawful.Spread.{dot_spread, row_limits}
 
 abbrev pub saturated_meaning : ℕ → ℕ → List Input → Meaning
@@ -39,7 +45,7 @@ pub record SaturatedOk (n m : ℕ) (is : List Input) : Type 0 where
   pub long : length is ≡ m
   pub each : AllByRecursion InputOk is
 
--- what the limits of its fields give
+-- what the limits of inputs give
 pub ok_from : (n m : ℕ) (is : List Input) → (1 ≤ n) × (n ≤ most_states) × (1 ≤ m) × (m ≤ most_inputs) → length is ≡ 2 → inputs_ok is ≡ true → SaturatedOk n m (take m is)
 ok_from n m is sizes two limits =
     let le : m ≤ length is = omega arith in
@@ -50,6 +56,19 @@ ok_from n m is sizes two limits =
       m_high = sizes.3;
       long = length-take-le m is le;
       each = All-take InputOk m is (ok_inputs is limits);
+    }
+
+-- what a saturated law knows of itself
+pub ok_held : (n : States) (p : PerInput Limited) → SaturatedOk n.count (length (inputs_of p)) (inputs_of p)
+ok_held n p =
+    let few = items_few p in
+    record {
+      n_low = n.some;
+      n_high = n.few;
+      m_low = omega (arith, few.0, length-map (items p) (λ l. l.input));
+      m_high = omega (arith, few.1, length-map (items p) (λ l. l.input));
+      long = refl;
+      each = All-map InputOk (λ l. l.input) (items p) (all_of (λ l. InputOk l.input) (λ l. ok_input l.input l.kept) (items p));
     }
 
 -- the clipped quotient at each digit

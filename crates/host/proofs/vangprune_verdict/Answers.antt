@@ -14,5 +14,5 @@ returns-in-Ok c =
 pub returns-in-Err : goal.returns-in-Err
 returns-in-Err c =
     let h = c.in-Err.ensures in
-    let e : c.report.result.cause ≡ verdict_cause (judged c.args.text.now) = ap (λ (t : Report). t.cause) c.report.ensures ∙ ap verdict_cause h.value in
+    let e : c.from.result.cause ≡ verdict_cause (judged c.args.text.now) = ap (λ (t : Report). t.cause) c.from.ensures ∙ ap verdict_cause h.value in
     record { value = e; form = told_form c.args.text.now _ e h.form; sound = told_sound c.args.text.now _ e h.sound }

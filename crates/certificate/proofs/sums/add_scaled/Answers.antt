@@ -27,10 +27,10 @@ module _ (cs was sums : List ℤ) (i : ℕ) (m : ℤ) (same : length cs ≡ leng
       (subst (Within room) (sym at_was) (All-get_or (Within room) was i (pos 0) lt fits)) limit (All-get_or (Within coefficient_limit) cs i (pos 0) (omega arith) small)
 
 pub overflow_mul-sums : goal.overflow_mul-sums
-overflow_mul-sums c = (at_turn c.args.coefficients.now c.args.sums.now c.loop-i.sums c.loop-i.i c.args.m c.requires.same c.loop-i-test.true (c.loop-i.invariant.1 c.loop-i.i (omega arith)) c.requires.multiplier c.requires.small c.requires.room).product_fits
+overflow_mul-sums c = (at_turn c.args.coefficients.now c.args.sums.now c.loop-i.sums c.loop-i.i c.args.m c.requires.same (omega (arith, c.requires.same, c.loop-i-test.true)) (c.loop-i.invariant.1 c.loop-i.i (omega arith)) c.requires.multiplier c.requires.small c.requires.room).product_fits
 
 pub overflow_add-sums : goal.overflow_add-sums
-overflow_add-sums c = (at_turn c.args.coefficients.now c.args.sums.now c.loop-i.sums c.loop-i.i c.args.m c.requires.same c.loop-i-test.true (c.loop-i.invariant.1 c.loop-i.i (omega arith)) c.requires.multiplier c.requires.small c.requires.room).sum_fits
+overflow_add-sums c = (at_turn c.args.coefficients.now c.args.sums.now c.loop-i.sums c.loop-i.i c.args.m c.requires.same (omega (arith, c.requires.same, c.loop-i-test.true)) (c.loop-i.invariant.1 c.loop-i.i (omega arith)) c.requires.multiplier c.requires.small c.requires.room).sum_fits
 
 pub loop-i-preserved : goal.loop-i-preserved
 loop-i-preserved c =
@@ -39,7 +39,7 @@ loop-i-preserved c =
     let cs = c.args.coefficients.now in
     let lt : i < length c.loop-i.sums = omega arith in
     let value : to_z w64 (of_z w64 (to_z w64 (of_z w64 (get_or c.loop-i.sums i (pos 0))) +ℤ to_z w64 (of_z w64 (to_z w64 (of_z w64 c.args.m) *ℤ to_z w64 (of_z w64 (get_or cs i (pos 0))))))) ≡ get_or s i (pos 0) +ℤ to_z w64 (of_z w64 c.args.m) *ℤ get_or cs i (pos 0) =
-    (at_turn c.args.coefficients.now c.args.sums.now c.loop-i.sums c.loop-i.i c.args.m c.requires.same c.loop-i-test.true (c.loop-i.invariant.1 c.loop-i.i (omega arith)) c.requires.multiplier c.requires.small c.requires.room).sum ∙ ap (λ z. z +ℤ c.args.m *ℤ get_or cs i (pos 0)) (at_was c.args.coefficients.now c.args.sums.now c.loop-i.sums c.loop-i.i c.args.m c.requires.same c.loop-i-test.true (c.loop-i.invariant.1 c.loop-i.i (omega arith)) c.requires.multiplier c.requires.small c.requires.room) ∙ ap (λ m. get_or s i (pos 0) +ℤ m *ℤ get_or cs i (pos 0)) (sym (to_z-of_z w64 c.args.m c.ranges.m)) in (
+    (at_turn c.args.coefficients.now c.args.sums.now c.loop-i.sums c.loop-i.i c.args.m c.requires.same (omega (arith, c.requires.same, c.loop-i-test.true)) (c.loop-i.invariant.1 c.loop-i.i (omega arith)) c.requires.multiplier c.requires.small c.requires.room).sum ∙ ap (λ z. z +ℤ c.args.m *ℤ get_or cs i (pos 0)) (at_was c.args.coefficients.now c.args.sums.now c.loop-i.sums c.loop-i.i c.args.m c.requires.same (omega (arith, c.requires.same, c.loop-i-test.true)) (c.loop-i.invariant.1 c.loop-i.i (omega arith)) c.requires.multiplier c.requires.small c.requires.room) ∙ ap (λ m. get_or s i (pos 0) +ℤ m *ℤ get_or cs i (pos 0)) (sym (to_z-of_z w64 c.args.m c.ranges.m)) in (
       below_more _ _ (λ k h. let ne : k ≢ i = omega arith in rw get_or-set_other (c.loop-i.invariant.0 k h)) (rw get_or-set_same value),
       (λ k h. let ne : k ≢ i = omega arith in rw get_or-set_other (c.loop-i.invariant.1 k (omega arith))),
     )
@@ -52,12 +52,10 @@ returns c =
     let e : length c.loop-i.sums ≡ length s = omega arith in
     let lt : length t ≡ length s = length-map cs (λ z. c.args.m *ℤ z) ∙ c.requires.same in
     let r = to_z-of_z w64 c.args.m c.ranges.m in
-    record {
-      value = ext_get_or (pos 0) _ _ (e ∙ sym (length_added s t (sym lt)))
-          (λ k h.
-          let hs : k < length s = omega arith in
-          let hc : k < length cs = omega (arith, c.requires.same) in
-          let ht : k < length t = omega arith in
-          c.loop-i.invariant.0 k (omega arith) ∙ ap (λ m. get_or s k (pos 0) +ℤ m *ℤ get_or cs k (pos 0)) r
-          ∙ ap (λ z. get_or s k (pos 0) +ℤ z) (sym (get_or-map (λ z. c.args.m *ℤ z) cs k (pos 0) (pos 0) hc)) ∙ sym (get_or_added s t k hs ht));
-    }
+    ext_get_or (pos 0) _ _ (e ∙ sym (length_added s t (sym lt)))
+    (λ k h.
+    let hs : k < length s = omega arith in
+    let hc : k < length cs = omega (arith, c.requires.same) in
+    let ht : k < length t = omega arith in
+    c.loop-i.invariant.0 k (omega arith) ∙ ap (λ m. get_or s k (pos 0) +ℤ m *ℤ get_or cs k (pos 0)) r
+    ∙ ap (λ z. get_or s k (pos 0) +ℤ z) (sym (get_or-map (λ z. c.args.m *ℤ z) cs k (pos 0) (pos 0) hc)) ∙ sym (get_or_added s t k hs ht))

@@ -1,68 +1,57 @@
-use Rattle.std.proofs.Common.{◌+◌, ◌*◌, [], ◌∷◌, length, sym, refl, ap, ◌∙◌, arith}
+use Rattle.std.proofs.Common.{◌+◌, ◌*◌, ◌∷◌, length, sym, ap, ◌∙◌, arith}
 use Rattle.text.proofs.Rows.{err_is}
-use Rattle.control.specs.Meaning.{meaning}
+use Rattle.control.specs.Means.{meaning_of}
 use Rattle.case.specs.Values.{values_of}
 use Rattle.std.specs.List.{range_with_len}
-use Rattle.checking.specs.Checking.{all_named, text_check}
+use Rattle.checking.specs.Checking.{names, line_behind, all_named, text_check}
 use Rattle.checking.proofs.Cuts.{nothing_left, unfinished, rest_shorter, line_stops, line_more}
 use Rattle.checking.proofs.Indices.{case_faces}
+use Rattle.checking.proofs.Marking.{marks_more, marks_same}
 use Rattle.checking.proofs.lines.check_lines.Goals as goal
-
-pub loop-rest-init : goal.loop-rest-init
-loop-rest-init g c = (omega arith, ([], c.none-named.ensures, refl))
 
 pub returns-in_default : goal.returns-in_default
 returns-in_default g c =
-    let k = c.args.controller.now in
-    let m = meaning (g.C.Controller.states k) (g.C.Controller.inputs k) (g.C.Controller.partition k) (g.C.Controller.feedback k) in
-    let v = values_of c.args.case.now in
+    let m = meaning_of g.C.Controller c.args.closed.now.controller.now in
+    let v = values_of c.args.closed.now.case.now in
     let inv = c.loop-rest.invariant.1 in
     sym (unfinished v m inv.0 c.loop-rest.line c.loop-rest.rest.now (sym c.is_empty.ensures ∙ c.loop-rest-test.true) c.in_default.ensures) ∙ inv.2
 
 pub returns-in_err-check_line : goal.returns-in_err-check_line
 returns-in_err-check_line g c =
-    let k = c.args.controller.now in
-    let m = meaning (g.C.Controller.states k) (g.C.Controller.inputs k) (g.C.Controller.partition k) (g.C.Controller.feedback k) in
-    let v = values_of c.args.case.now in
+    let m = meaning_of g.C.Controller c.args.closed.now.controller.now in
+    let v = values_of c.args.closed.now.case.now in
     let inv = c.loop-rest.invariant.1 in
     let e = c.in_err-check_line.field-0.0 in
     err_is c.from_residual.result e c.from_residual.ensures.1
-    ∙ sym (line_stops v m inv.0 c.loop-rest.line c.loop-rest.rest.now c.in-Some.bytes.now c.in-Some.after.now e c.in-Some.ensures (c.in_err-check_line.ensures inv.0 inv.1))
+    ∙ sym (line_stops v m inv.0 c.loop-rest.line c.loop-rest.rest.now c.in-Some.bytes.now c.in-Some.after.now e c.in-Some.ensures (ap (λ n. line_behind v m n c.loop-rest.line c.in-Some.bytes.now) (sym (marks_same c.loop-rest.named.flags inv.0 inv.1)) ∙ c.in_err-check_line.ensures))
     ∙ inv.2
-
-pub overflow_add-line : goal.overflow_add-line
-overflow_add-line g c =
-    let short = rest_shorter c.loop-rest.rest.now c.in-Some.bytes.now c.in-Some.after.now c.in-Some.ensures in
-    record { fits = omega (arith, short, c.loop-rest.invariant.0, c.requires.short.0, c.requires.short.1) }
 
 pub loop-rest-smaller : goal.loop-rest-smaller
 loop-rest-smaller g c = omega (arith, rest_shorter c.loop-rest.rest.now c.in-Some.bytes.now c.in-Some.after.now c.in-Some.ensures)
 
 pub loop-rest-preserved : goal.loop-rest-preserved
 loop-rest-preserved g c =
-    let k = c.args.controller.now in
-    let m = meaning (g.C.Controller.states k) (g.C.Controller.inputs k) (g.C.Controller.partition k) (g.C.Controller.feedback k) in
-    let v = values_of c.args.case.now in
+    let m = meaning_of g.C.Controller c.args.closed.now.controller.now in
+    let v = values_of c.args.closed.now.case.now in
     let inv = c.loop-rest.invariant.1 in
-    let told = c.in_ok-check_line.ensures inv.0 inv.1 in
+    let told = c.in_ok-check_line.ensures in
     let short = rest_shorter c.loop-rest.rest.now c.in-Some.bytes.now c.in-Some.after.now c.in-Some.ensures in (
       omega (arith, short, c.loop-rest.invariant.0),
       (
         told.0 ∷ inv.0,
-        told.2,
-        sym (line_more v m inv.0 c.loop-rest.line c.loop-rest.rest.now c.in-Some.bytes.now c.in-Some.after.now told.0 c.in-Some.ensures told.1) ∙ inv.2,
+        marks_more c.loop-rest.named.flags _ told.0 inv.0 inv.1 told.2,
+        sym (line_more v m inv.0 c.loop-rest.line c.loop-rest.rest.now c.in-Some.bytes.now c.in-Some.after.now told.0 c.in-Some.ensures (ap (λ n. line_behind v m n c.loop-rest.line c.in-Some.bytes.now) (sym (marks_same c.loop-rest.named.flags inv.0 inv.1)) ∙ told.1)) ∙ inv.2,
       ),
     )
 
 pub returns : goal.returns
 returns g c =
-    let k = c.args.controller.now in
-    let m = meaning (g.C.Controller.states k) (g.C.Controller.inputs k) (g.C.Controller.partition k) (g.C.Controller.feedback k) in
-    let v = values_of c.args.case.now in
+    let m = meaning_of g.C.Controller c.args.closed.now.controller.now in
+    let v = values_of c.args.closed.now.case.now in
     let inv = c.loop-rest.invariant.1 in
     let ended = nothing_left c.loop-rest.rest.now (sym c.is_empty.ensures ∙ c.loop-rest-test.false) in
-    c.all.ensures inv.0 inv.1
-    ∙ ap (λ n. all_named inv.0 (range_with_len 1 n) (range_with_len 1 (2 * c.args.case.now.states + c.args.case.now.extras))) c.regions.ensures
-    ∙ ap (λ n. all_named inv.0 (range_with_len 1 (length m.regions)) (range_with_len 1 n)) (case_faces c.args.case.now)
+    c.all.ensures ∙ ap (λ n. all_named n (range_with_len 1 c.regions.result) (range_with_len 1 (2 * c.args.closed.now.case.now.states + c.args.closed.now.case.now.extras))) (marks_same c.loop-rest.named.flags inv.0 inv.1)
+    ∙ ap (λ n. all_named (names inv.0) (range_with_len 1 n) (range_with_len 1 (2 * c.args.closed.now.case.now.states + c.args.closed.now.case.now.extras))) c.regions.ensures
+    ∙ ap (λ n. all_named (names inv.0) (range_with_len 1 (length m.regions)) (range_with_len 1 n)) (case_faces c.args.closed.now.case.now)
     ∙ sym (ap (text_check v m inv.0 c.loop-rest.line) ended)
     ∙ inv.2

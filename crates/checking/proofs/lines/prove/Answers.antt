@@ -1,39 +1,26 @@
-use Rattle.std.proofs.Common.{get_or, pos, arith, w64, SFits, rules}
+-- The proof of `prove`: what the search leaves.
+use Rattle.std.proofs.Common.{◌≡◌, eqb, get_or, pos, sym, ◌∙◌, w64, SFits, rules}
+use Rattle.std.proofs.lemmas.Bool.{and_from, eq-eqb}
 use Rattle.std.proofs.lemmas.Int.{to_z-of_z}
-use Rattle.control.specs.Meaning.{meaning}
 use Rattle.case.specs.Faces.{faces}
-use Rattle.case.specs.Values.{values_of}
-use Rattle.system.proofs.Outcomes.{sizes_agree}
-use Rattle.checking.proofs.Indices.{present_from, case_faces}
+use Rattle.case.specs.Values.{state_count}
+use Rattle.case.proofs.Stored.{states_are}
+use Rattle.system.specs.Systems.{case_in, control_in}
+use Rattle.checking.specs.Checking.{proved_at}
+use Rattle.checking.proofs.Indices.{present_from}
 use Rattle.checking.proofs.Proving.{equations_answered}
 use Rattle.checking.proofs.lines.prove.Goals as goal
 
-pub overflow_cast-pair : goal.overflow_cast-pair
-overflow_cast-pair g c =
-    let few = (g.met.C.Controller.limits c.args.controller.now).regions_high in
-    record { fits = omega (arith, few, c.requires.region.1) }
-
-pub overflow_cast-pair-in-Err : goal.overflow_cast-pair-in-Err
-overflow_cast-pair-in-Err g c =
-    let v = c.args.case.now in
-    record { fits = omega (arith, c.requires.face.1, case_faces v, v.sizes.1, v.counts.1) }
-
-pub returns-in-Ok : goal.returns-in-Ok
-returns-in-Ok g c =
-    let k = c.args.controller.now in
-    let m = meaning (g.C.Controller.states k) (g.C.Controller.inputs k) (g.C.Controller.partition k) (g.C.Controller.feedback k) in
-    let v = values_of c.args.case.now in
-    let f : SFits w64 (get_or c.args.numbers.now 0 (pos 0)) = search rules in
-    equations_answered v m c.args.region c.args.face c.args.line c.args.numbers.now _ _ (to_z-of_z w64 (get_or c.args.numbers.now 0 (pos 0)) f)
-    (sizes_agree c.args.case.now m c.requires.states c.requires.inputs) (present_from m.regions c.args.region c.requires.region.0 c.requires.region.1) (present_from (faces v) c.args.face c.requires.face.0 c.requires.face.1)
-    c.requires.long c.requires.limits c.in-Ok.ensures.value
-
-pub returns-in-Err : goal.returns-in-Err
-returns-in-Err g c =
-    let k = c.args.controller.now in
-    let m = meaning (g.C.Controller.states k) (g.C.Controller.inputs k) (g.C.Controller.partition k) (g.C.Controller.feedback k) in
-    let v = values_of c.args.case.now in
-    let f : SFits w64 (get_or c.args.numbers.now 0 (pos 0)) = search rules in
-    equations_answered v m c.args.region c.args.face c.args.line c.args.numbers.now _ _ (to_z-of_z w64 (get_or c.args.numbers.now 0 (pos 0)) f)
-    (sizes_agree c.args.case.now m c.requires.states c.requires.inputs) (present_from m.regions c.args.region c.requires.region.0 c.requires.region.1) (present_from (faces v) c.args.face c.requires.face.0 c.requires.face.1)
-    c.requires.long c.requires.limits c.in-Err.ensures.value
+pub returns : goal.returns
+returns g c =
+    let k = case_in c.args.closed.now in
+    let m = control_in c.args.closed.now in
+    let i = c.args.index in
+    let numbers = c.args.numbers.now in
+    let told : c.map_err.result ≡ proved_at c.args.line i.region i.face c.test_proof.result = search rules in
+    let l = c.args.closed.now in
+    let sizes = and_from (eqb m.states (state_count k)) (eqb m.inputs k.inputs) (eq-eqb _ _ (l.states ∙ sym (states_are l.case.now))) (eq-eqb _ _ l.inputs) in
+    let region = present_from m.regions i.region i.region_in.0 c.requires.region in
+    let face = present_from (faces k) i.face i.face_in.0 c.requires.face in
+    let f : SFits w64 (get_or numbers 0 (pos 0)) = search rules in
+    told ∙ equations_answered k m i.region i.face c.args.line numbers _ c.test_proof.result (to_z-of_z w64 (get_or numbers 0 (pos 0)) f) sizes region face c.requires.long c.requires.limits c.test_proof.ensures.value

@@ -1,7 +1,8 @@
 -- The loop invariant of `divide_all`.
-use Rattle.std.proofs.Common.{◌≡◌, ◌++◌, take, drop}
+use Rattle.std.proofs.Common.{◌≡◌, ◌++◌, length, take, drop}
 use Rattle.elimination.specs.Rows.{quotients}
 use Rattle.elimination.proofs.lists.divide_all.Given as goal
 
 abbrev pub invariant-loop-value : goal.invariant-loop-value
-invariant-loop-value l = l.values ≡ quotients l.d (take l.value-index l.initial.values) ++ drop l.value-index l.initial.values
+invariant-loop-value g l =
+    (length l.initial.value-items ≡ g.row.N) × (length l.value-items ≡ g.row.N) × (l.value-items ≡ quotients l.d (take l.value-index l.initial.value-items) ++ drop l.value-index l.initial.value-items)

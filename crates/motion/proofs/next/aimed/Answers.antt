@@ -4,7 +4,8 @@ use Rattle.std.proofs.lemmas.Int.{to_z-of_z}
 use Rattle.arith.specs.Bounds.{Within}
 use Rattle.motion.specs.Moves.{aim_limit}
 use Rattle.motion.proofs.Aims.{aim_held}
-use Rattle.motion.proofs.Stored.{equation_ok_at, equations_enough}
+use Rattle.case.proofs.Stored.{equations_enough}
+use Rattle.motion.proofs.Stored.{equation_ok_at}
 use Rattle.motion.proofs.next.aimed.Goals as goal
 
 pub aim_of-requires : goal.aim_of-requires
@@ -16,9 +17,6 @@ aim_of-requires c =
       states = omega (arith, k.sizes.1, c.requires.states);
       inputs = omega (arith, k.sizes.3, c.requires.inputs);
       pushes = omega (arith, k.counts.0, c.requires.pushes);
-      small_x = c.requires.small_x;
-      small_u = c.requires.small_u;
-      small_w = c.requires.small_w;
     }
 
 pub returns : goal.returns
@@ -27,6 +25,6 @@ returns c =
     let f : SFits w64 c.aim_of.result = search rules in
     let e = to_z-of_z w64 _ f in
     record {
-      value = e ∙ aim_held k c.args.state c.args.x.now c.args.u.now c.args.w.now _ c.requires.place c.requires.states c.requires.inputs c.requires.pushes c.aim_of.ensures.value;
+      value = e ∙ aim_held k c.args.state c.args.step.now.state.now c.args.step.now.command.now c.args.step.now.pushes.now _ c.requires.place c.requires.states c.requires.inputs c.requires.pushes c.aim_of.ensures.value;
       bound = subst (Within aim_limit) (sym e) c.aim_of.ensures.bound;
     }

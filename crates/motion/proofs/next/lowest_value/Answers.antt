@@ -3,12 +3,14 @@ use Rattle.std.proofs.Common.{◌≡◌, ◌-ℤ◌, neg_ℤ, sym, ap, ◌∙◌
 use mir.Syntax.{w128}
 use Rattle.std.specs.Int.{int_div_euclid}
 use Rattle.std.proofs.lemmas.Int.{to_z-of_z}
+use Rattle.arith.proofs.Widths.{widened}
 use Rattle.motion.proofs.Roundings.{lowest_fits, widened_difference, quotient_read, negated_read}
-use Rattle.motion.proofs.Widths.{widened}
 use Rattle.motion.proofs.next.lowest_value.Goals as goal
 
 quotient : (c : goal.After-div_euclid) → c.div_euclid.result ≡ int_div_euclid (c.args.leeway -ℤ c.args.v) c.args.divisor
-quotient c = quotient_read _ _ _ _ _ c.div_euclid.ensures (widened_difference _ _ c.ranges.leeway c.ranges.v) (widened _ c.ranges.divisor)
+quotient c =
+    quotient_read _ _ _ _ _ c.div_euclid.ensures (widened_difference _ _ _ _ c.ranges.leeway c.ranges.v c.from.ensures c.from-2.ensures)
+    (widened _ _ c.ranges.divisor c.from-3.ensures)
 
 fits : (c : goal.After-div_euclid) → SFits w128 (neg_ℤ c.div_euclid.result)
 fits c = subst (λ q. SFits w128 (neg_ℤ q)) (sym (quotient c)) (lowest_fits c.args.divisor c.args.leeway c.args.v c.requires c.ranges.leeway c.ranges.v)

@@ -20,9 +20,6 @@ product_is c =
     let w = All-get_or (Within coefficient_limit) c.args.values.now c.loop-i.i (pos 0) c.loop-i-test.true c.requires.small in
     product_read _ _ (sfits_within 1 _ (lit< tt) c.requires.sign) (sfits_within coefficient_limit _ (lit< tt) w)
 
-pub overflow_mul-coefficients : goal.overflow_mul-coefficients
-overflow_mul-coefficients c = rw (product_is c) (product_small c)
-
 pub loop-i-preserved : goal.loop-i-preserved
 loop-i-preserved c =
     let v = ap (λ z. to_z w64 (of_z w64 z)) (product_is c) ∙ to_z-of_z w64 _ (product_small c) ∙ ap (λ s. s *ℤ get_or c.args.values.now c.loop-i.i (pos 0)) (sym (sign_read c)) in

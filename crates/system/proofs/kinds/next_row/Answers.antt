@@ -1,6 +1,5 @@
 -- The proof of `next_row`: what the search leaves.
 use Rattle.std.proofs.Common.{◌/◌, pos, negsuc, ap, ◌∙◌, arith, lit<}
-use Rattle.std.proofs.lemmas.Int.{ints}
 use Rattle.arith.proofs.Bounds.{negated_read}
 use Rattle.case.specs.Limits.{divisor_limit}
 use Rattle.case.specs.System.{equation_row}
@@ -8,26 +7,14 @@ use Rattle.case.specs.Values.{equation_of, values_of}
 use Rattle.system.proofs.Filling.{equation_at, equation_test_at, equation_ok_at, high_next_is, low_next_is, same_row, up_is, down_is, divisor_within, divisor_read}
 use Rattle.system.proofs.kinds.next_row.Goals as goal
 
-pub fill_next-requires : goal.fill_next-requires
-fill_next-requires c =
-    record {
-      place = omega (arith, c.requires.place);
-      limits = equation_test_at c.args.case.now (c.args.j / 2) (omega (arith, c.requires.place));
-      sign = (omega (arith, ints), omega (arith, ints));
-      long = c.requires.long;
-    }
+pub fill_next-requires-clause-limits : goal.fill_next-requires-clause-limits
+fill_next-requires-clause-limits c = equation_test_at c.args.case.now (c.args.j / 2) (omega (arith, c.requires.place))
 
-pub fill_next-requires-2 : goal.fill_next-requires-2
-fill_next-requires-2 c =
-    record {
-      place = omega (arith, c.requires.place);
-      limits = equation_test_at c.args.case.now (c.args.j / 2) (omega (arith, c.requires.place));
-      sign = (omega (arith, ints), omega (arith, ints));
-      long = c.requires.long;
-    }
+pub fill_next-requires-2-clause-limits : goal.fill_next-requires-2-clause-limits
+fill_next-requires-2-clause-limits c = equation_test_at c.args.case.now (c.args.j / 2) (omega (arith, c.requires.place))
 
 pub overflow_add-result : goal.overflow_add-result
-overflow_add-result c = let t = up_is (equation_at c.args.case.now (c.args.j / 2)) (equation_ok_at c.args.case.now (c.args.j / 2) (omega (arith, c.requires.place))) in t.1
+overflow_add-result c = (up_is (equation_at c.args.case.now (c.args.j / 2)) (equation_ok_at c.args.case.now (c.args.j / 2) (omega (arith, c.requires.place)))).1
 
 pub returns-then-j-eq0 : goal.returns-then-j-eq0
 returns-then-j-eq0 c =
@@ -39,7 +26,7 @@ returns-then-j-eq0 c =
     ∙ high_next_is v c.args.j c.requires.place c.if-j-eq0.true
 
 pub overflow_sub-result : goal.overflow_sub-result
-overflow_sub-result c = let t = down_is (equation_at c.args.case.now (c.args.j / 2)) (equation_ok_at c.args.case.now (c.args.j / 2) (omega (arith, c.requires.place))) in t.1
+overflow_sub-result c = (down_is (equation_at c.args.case.now (c.args.j / 2)) (equation_ok_at c.args.case.now (c.args.j / 2) (omega (arith, c.requires.place)))).1
 
 pub returns : goal.returns
 returns c =

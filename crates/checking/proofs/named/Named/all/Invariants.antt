@@ -1,10 +1,11 @@
-use Rattle.std.proofs.Common.{◌≡◌, ◌+◌, ◌-◌, List}
+-- The loop invariant of `all`: no face of a region before is absent.
+use Rattle.std.proofs.Common.{◌≡◌, ◌+◌, ◌-◌}
 use Rattle.std.specs.List.{range_with_len}
-use Rattle.checking.specs.Checking.{ProofLine, all_named}
-use Rattle.checking.specs.Marks.{Marks}
+use Rattle.checking.specs.Checking.{all_named}
+use Rattle.checking.specs.Marks.{marked}
 use Rattle.checking.proofs.named.Named.all.Given as goal
 
-abbrev pub invariant-loop-i : goal.invariant-loop-i
-invariant-loop-i l =
-    (ls : List ProofLine) → Marks l.self.flags ls
-    → all_named ls (range_with_len (1 + l.i) (l.regions - l.i)) (range_with_len 1 l.faces) ≡ all_named ls (range_with_len 1 l.regions) (range_with_len 1 l.faces)
+abbrev pub invariant-loop-region : goal.invariant-loop-region
+invariant-loop-region l =
+    all_named (marked l.self.flags) (range_with_len l.region (l.regions + 1 - l.region)) (range_with_len 1 l.faces)
+    ≡ all_named (marked l.self.flags) (range_with_len 1 l.regions) (range_with_len 1 l.faces)

@@ -2,5 +2,5 @@
 use Rattle.elimination.proofs.Signs.{blank_form}
 use Rattle.elimination.proofs.row.Row.is_blank.Goals as goal
 
-pub returns : goal.returns
-returns c = record { value = c.all_within.ensures; form = blank_form c.args.self.now }
+pub returns-clause-form : goal.returns-clause-form
+returns-clause-form c = blank_form c.args.self.now
