@@ -40,7 +40,7 @@ fn places<T: Copy, F: Fn(usize) -> T, const N: usize>(count: usize, blank: T, ma
     places
 }
 
-// `count` numbers of a row from `from` on, then zeros.
+// `count` numbers of a row from `from` on, then zeros. The room is asked for here too, for the same reason.
 fn part<const N: usize>(row: &[i64; 8], from: usize, count: usize) -> [i64; N]
     requires within { from + count ≤ 8 }
     requires room { count ≤ N }

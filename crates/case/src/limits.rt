@@ -18,6 +18,8 @@ pub const EXTRA_LIMIT: i64 = 1_000_000_000;
 
 pub const LEEWAY_LIMIT: i64 = 1_000_000;
 
+// Limits are written out: a constant calls no function. Those of states and inputs are in law texts too: no crate below both
+// has the sizes and `Limit`.
 const BOUND: Limit = Limit {
     low: -BOUND_LIMIT,
     high: BOUND_LIMIT,

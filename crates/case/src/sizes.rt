@@ -8,7 +8,8 @@ use crate::limits::SIZES;
 use crate::sections::Section;
 use text::lines::sized;
 
-// The numbers of states, inputs, pushes and extra faces, and the divisor.
+// The numbers of states, inputs, pushes and extra faces, and the divisor, while the rest of a text is read by them. A case has
+// them as fields of its own, by which all who use it say them.
 #[derive(Clone, Copy)]
 pub struct Sizes {
     pub states: usize,

@@ -51,3 +51,28 @@ pub struct Case<'t> {
     ghost limits: { (all_equations_ok equations ≡ true) × (all_bounds_ok bounds ≡ true) × (all_extras_ok extra ≡ true) },
     ghost wide: { all_wide divisor (take states equations) ≡ true },
 }
+
+impl Case<'_> {
+    ghost use Rattle.std.specs.Prelude.{◌+◌, ◌*◌};
+    ghost use Rattle.case.specs.Faces.{faces};
+    ghost use Rattle.case.specs.System.{column_count};
+    ghost use Rattle.case.specs.Values.{values_of};
+
+    // How many faces the case has: two for each state, and the extra ones.
+    #[tactic(auto, using(crate::proofs::Faces::case_faces))]
+    pub fn face_count(&self) -> usize
+        ensures value { result ≡ length (faces (values_of self.now)) }
+        ensures sum { result ≡ 2 * self.now.states + self.now.extras }
+    {
+        2 * self.states + self.extras
+    }
+
+    // How many columns its systems have: states, inputs, pushes and next states.
+    #[tactic(auto, using(crate::proofs::Faces::case_columns))]
+    pub fn column_count(&self) -> usize
+        ensures value { result ≡ column_count (values_of self.now) }
+        ensures sum { result ≡ self.now.states + self.now.inputs + self.now.pushes + self.now.states }
+    {
+        self.states + self.inputs + self.pushes + self.states
+    }
+}

@@ -11,12 +11,12 @@ use Rattle.case.specs.declared.values.Case.{Case}
 use Rattle.case.specs.Faces.{faces}
 use Rattle.case.specs.System.{column_count, none, over_states}
 use Rattle.case.specs.Values.{CaseValues, state_count, push_count, values_of}
-use Rattle.case.proofs.Faces.{faces_count}
+use Rattle.case.proofs.Faces.{case_columns, faces_count}
 use Rattle.case.proofs.Stored.{states_are, pushes_are, extras_are}
 use Rattle.system.specs.Answers.{system_of, system_row_of}
 use Rattle.system.specs.Filled.{filled}
 use Rattle.system.proofs.Bridged.{faces_wide}
-use Rattle.system.proofs.Counts.{case_columns, system_count}
+use Rattle.system.proofs.Counts.{system_count}
 use Rattle.system.proofs.Groups.{face_at}
 use Rattle.system.proofs.Rows.{all_append_parts}
 use Rattle.system.proofs.Stored.{case_wide}

@@ -11,10 +11,11 @@ use Rattle.control.specs.declared.controller.Controller.{Ghosts as ControllerOf}
 use Rattle.case.specs.declared.values.Case.{Case}
 use Rattle.case.specs.System.{column_count, none}
 use Rattle.case.specs.Values.{values_of}
+use Rattle.case.proofs.Faces.{case_columns}
 use Rattle.system.specs.Answers.{most_system_rows, most_columns, system_of}
 use Rattle.system.specs.Systems.{control_of, rows_of, columns_of}
 use Rattle.system.specs.declared.system.System.{System}
-use Rattle.system.proofs.Counts.{case_rows, case_columns}
+use Rattle.system.proofs.Counts.{case_rows}
 use Rattle.system.proofs.Limits.{system_limits}
 use Rattle.system.proofs.Outcomes.{region_limits, rows_limits}
 use Rattle.certificate.specs.Tests.{multiplier_limit}

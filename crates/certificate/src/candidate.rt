@@ -58,8 +58,8 @@ impl<'m> Candidate<'m> {
         self.scale * face[j - width]
     }
 
-    // The first column, counted from 1, whose sum is not what it must be. The face's limits stand in clauses: it is lent as a
-    // row of a system, whose clause gives them.
+    // The first column, counted from 1, whose sum is not what it must be. The face's limits stand in clauses, here and above:
+    // it is lent as a row of a system, whose clause gives them.
     pub(crate) fn first_unequal(&self, sums: &[i64], width: usize, face: &[i64]) -> Option<u32>
         requires long { length sums.now ≡ width + length face.now }
         requires few { length sums.now ≤ most_columns }

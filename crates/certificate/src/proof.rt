@@ -57,7 +57,7 @@ pub fn test_proof<C: Controller>(
 {
     let closed = ClosedLoop::new(case, controller)?;
     let system = closed.system(region)?;
-    if face < 1 || face > 2 * case.states + case.extras {
+    if face < 1 || face > case.face_count() {
         return Err(ProofFault::Missing);
     }
     if multipliers.len() != system.rows {

@@ -38,6 +38,7 @@ pub(crate) fn add_up<C: Controller>(
     ensures columns { sums.new ≡ column_sums (columns_of system.now) candidate.now.multipliers.now (rows_of system.now) }
     ensures right { result ≡ right_sum candidate.now.multipliers.now (rows_of system.now) }
 {
+    // As many places as a system can have columns: nothing is allocated.
     let columns = sums.len();
     let multipliers = candidate.multipliers;
     let mut sum = 0;

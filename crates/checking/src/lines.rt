@@ -38,7 +38,7 @@ fn read_index(fields: &mut Fields, place: Place, count: usize) -> Result<usize, 
     match fields.number(place, limit) {
         Ok(number) => Ok(number.unsigned_abs() as usize),
         Err(TextFault::Field(at, FieldFault::Outside)) => Err(CheckFault::Missing(at)),
-        Err(fault) => Err(CheckFault::Text(fault)),
+        Err(fault) => Err(fault.into()),
     }
 }
 
@@ -87,14 +87,13 @@ fn check_line<C: Controller>(
     ensures { LineTold (line_behind (case_in closed.now) (control_in closed.now) (marked named.old.flags) line bytes.now) named.old.flags named.new.flags result }
 {
     let case = closed.case;
-    let faces = 2 * case.states + case.extras;
     let mut fields = Fields::of(bytes);
     let region = read_index(
         &mut fields,
         Place { line, field: 1 },
         closed.controller.regions(),
     )?;
-    let face = read_index(&mut fields, Place { line, field: 2 }, faces)?;
+    let face = read_index(&mut fields, Place { line, field: 2 }, case.face_count())?;
     let index = PairIndex { region, face };
     if named.has(index) {
         return Err(CheckFault::Repeated(line, index.into()));
@@ -117,12 +116,10 @@ pub(crate) fn check_lines<C: Controller>(closed: &ClosedLoop<C>) -> Result<(), C
     let mut line = case.line;
     // A while loop: a rest without a line feed is a fault, which an iterator of lines would have to give as one of them.
     while !rest.is_empty() {
-        let Some((bytes, after)) = cut(rest, b'\n') else {
-            return Err(CheckFault::Text(TextFault::Line(line)));
-        };
+        let (bytes, after) = cut(rest, b'\n').ok_or(TextFault::Line(line))?;
         check_line(closed, line, bytes, &mut named)?;
         rest = after;
         line += 1;
     }
-    named.all(closed.controller.regions(), 2 * case.states + case.extras)
+    named.all(closed.controller.regions(), case.face_count())
 }

@@ -15,8 +15,8 @@ pub struct Line {
     pub right: i64,
 }
 
-// Writes the coefficients of a line of input j, counted from 0. Limits, sign and room stand in clauses: they concern lists and a
-// number of this one call, and a type for them would be made here only to be taken apart.
+// Writes the coefficients of a line of input j, counted from 0. Limits and room stand in clauses: they concern lists of this one
+// call. So does the sign: the definitions make a line of any numbers, so `Line` can keep no fact.
 pub fn fill_row(gains: &[i64], j: usize, line: Line, coefficients: &mut [i64])
     requires room { length gains.now + j < length coefficients.old }
     requires small { AllByRecursion (Within coefficient_limit) gains.now }
@@ -31,7 +31,8 @@ pub fn fill_row(gains: &[i64], j: usize, line: Line, coefficients: &mut [i64])
     coefficients[gains.len() + j] = line.own;
 }
 
-// The first or the second row of an input with the command u: u at the most, and u at the least.
+// The first or the second row of an input with the command u: u at the most, and u at the least. That there is a row k is asked
+// in a clause: how many there are differs by the digit.
 pub(crate) fn command_line(u: i64, k: usize) -> Line
     requires small { within setting_limit u ≡ true }
     requires place { k < length (fixed_lines u) }

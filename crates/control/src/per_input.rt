@@ -4,7 +4,7 @@ ghost use Rattle.std.specs.Fn.{FnReturnsAt};
 ghost use Rattle.control.specs.Limits.{inputs_count_ok};
 ghost use Rattle.control.specs.PerInput.{items, EachOfEach};
 
-// One value or two, matched where the answer for two inputs is not made of the answers for each.
+// One value or two, matched where the answer for two inputs is made in another way than that for one.
 #[derive(Clone, Copy)]
 pub(crate) enum PerInput<T> {
     One(T),

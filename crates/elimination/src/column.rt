@@ -66,7 +66,8 @@ impl<'a> Rows<'a> {
         }
     }
 
-    // Puts the row of p with each negative row behind those that stand.
+    // Puts the row of p with each negative row behind those that stand. The sign is asked in a clause: a row has another in each
+    // column.
     #[tactic(auto, using(crate::proofs::Passing::fewer_before))]
     fn join_with(&mut self, p: &ProperRow, rows: &[Row], column: Column) -> Result<(), Stop>
         requires positive { is_positive (coefficient p.now column) ≡ true }

@@ -65,7 +65,8 @@ fn ratio(b: u64, g: u64) -> i64
     (b / g) as i64
 }
 
-// The combination of p, positive in the column, and q, negative in it, in which the column falls out.
+// The combination of p, positive in the column, and q, negative in it, in which the column falls out. The signs are asked in
+// clauses, here and below: a row has another in each column.
 fn join_sum(p: &ProperRow, q: &ProperRow, column: Column) -> Row
     requires positive { is_positive (coefficient p.now column) ≡ true }
     requires negative { is_negative (coefficient q.now column) ≡ true }

@@ -19,8 +19,7 @@ fn read_counts(text: &[u8]) -> Result<(u32, u32), Report>
     let (law, rest) = read_controller(text)?;
     let mut case = Case::blank();
     read_case(rest, &mut case)?;
-    let faces = 2 * case.states + case.extras;
-    Ok((law.regions() as u32, faces as u32))
+    Ok((law.regions() as u32, case.face_count() as u32))
 }
 
 // Reads a law text and the case text after it, and tells the counts of regions and of faces, or the first fault.

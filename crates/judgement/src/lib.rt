@@ -31,7 +31,7 @@ fn judge_case(law: &Law, text: &[u8]) -> Result<Accepted, CheckFault>
     check(&case, law)?;
     Ok(Accepted {
         regions: law.regions() as u32,
-        faces: (2 * case.states + case.extras) as u32,
+        faces: case.face_count() as u32,
     })
 }
 

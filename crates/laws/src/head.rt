@@ -21,6 +21,7 @@ pub struct LawHead {
     ghost sizes: { (1 ≤ states) × (states ≤ most_states) × (1 ≤ inputs) × (inputs ≤ most_inputs) },
 }
 
+// As in a case text: no crate below both has the sizes and `Limit` too.
 const STATES: Limit = Limit {
     low: 1,
     high: MOST_STATES as i64,
@@ -61,13 +62,9 @@ impl LawHead {
     pub(crate) fn read(text: &[u8]) -> Result<(LawHead, &[u8]), LawFault>
         ensures { head_told result ≡ head_line text.now }
     {
-        let Some((bytes, rest)) = cut(text, b'\n') else {
-            return Err(LawFault::Text(TextFault::Line(2)));
-        };
+        let (bytes, rest) = cut(text, b'\n').ok_or(TextFault::Line(2))?;
         let mut fields = Fields::of(bytes);
-        let Some(kind) = next_kind(&mut fields) else {
-            return Err(LawFault::Word(2));
-        };
+        let kind = next_kind(&mut fields).ok_or(LawFault::Word(2))?;
         let sizes = fields.row(2, 1, &[STATES, INPUTS])?;
         Ok((
             LawHead {

@@ -88,8 +88,6 @@ pub fn read_controller(text: &[u8]) -> Result<(Law, &[u8]), LawFault>
 {
     let mut table = LawTable::Fixed([0, 0]);
     let (states, inputs, rest) = read_law(text, &mut table)?;
-    match Law::new(states, inputs, &table) {
-        Some(law) => Ok((law, rest)),
-        None => unreachable(),
-    }
+    let law = Law::new(states, inputs, &table).unwrap();
+    Ok((law, rest))
 }

@@ -9,6 +9,7 @@ use text::blocks::row_lines;
 use text::faults::Place;
 use text::number::Limit;
 
+// Limits are written out, here and in other files: a constant calls no function.
 const GAIN: Limit = Limit {
     low: -(GAIN_LIMIT as i64),
     high: GAIN_LIMIT as i64,

@@ -74,7 +74,7 @@ fn case_text(heap: Global, case: &str) -> anyhow::Result<Vec<u8>> {
     Ok(text)
 }
 
-// Prints the second line of the verdict on a text.
+// Prints the second line of the verdict on a text; the record is an array, as the library writes it.
 fn print_verdict(rt: &HostRuntime, verdict: Verdict) -> anyhow::Result<()> {
     let mut record = [0u8; RECORD_SIZE];
     let written = write_verdict(&mut record, verdict);

@@ -11,7 +11,8 @@ use super::range::Permitted;
 use arith::wide_product;
 use case::values::{Case, StateEquation};
 
-// (v - leeway) / divisor, rounded up.
+// (v - leeway) / divisor, rounded up. The three numbers are those of `permitted`, which is defined for any, so no struct holds
+// them here and below.
 fn lowest_value(divisor: i64, leeway: i64, v: i64) -> i128
     requires { pos 1 ≤ℤ divisor }
     ensures { result ≡ lowest divisor leeway v }

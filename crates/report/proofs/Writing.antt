@@ -1,5 +1,5 @@
 -- What one more byte, or more bytes behind those that are written, leave in a slice.
-use Rattle.std.proofs.Common.{◌≡◌, ℕ, ◌+◌, ◌-◌, ◌/◌, ◌%◌, ◌<◌, ◌≤◌, true, leb, List, [], ◌∷◌, ◌++◌, length, get_or, take, drop, set, Some, None, sym, refl, ap, ◌∙◌, append_assoc, arith}
+use Rattle.std.proofs.Common.{◌≡◌, ℕ, ◌+◌, ◌-◌, ◌/◌, ◌%◌, ◌<◌, ◌≤◌, true, leb, List, [], ◌∷◌, ◌++◌, length, get_or, take, drop, set, Some, sym, refl, ap, ◌∙◌, append_assoc, arith}
 use borrow.Rule.Slice.PartMut.{put_mid}
 use Rattle.std.proofs.lemmas.List.{append-nil, take_at, drop_at, drop_all, drop_more, drop-drop, set_at, take_rest, length-drop, length_push, length-append}
 use Rattle.std.proofs.lemmas.Bool.Decides.{nat_tests}
@@ -62,6 +62,3 @@ room_fits b out h = let e : leb (length b) (length out) ≡ true = grind (arith,
 
 pub room_some : (b out : List ℕ) (k : ℕ) → Some k ≡ room b out → k ≡ length b
 room_some b out k e = grind (arith, nat_tests)
-
-pub room_none : (b out : List ℕ) → None ≡ room b out → length out < length b
-room_none b out e = grind (arith, nat_tests)

@@ -113,10 +113,7 @@ fn print_numbers(out: &mut [u8], numbers: &[u32]) -> usize
     for number in numbers {
         out[at] = b' ';
         at += 1;
-        match write_number(&mut out[at..], i64::from(*number)) {
-            Some(count) => at += count,
-            None => unreachable(),
-        }
+        at += write_number(&mut out[at..], i64::from(*number)).unwrap();
     }
     at
 }

@@ -6,7 +6,7 @@ use Rattle.case.specs.declared.values.StateEquation.{StateEquation}
 use Rattle.case.specs.declared.values.PushBounds.{PushBounds}
 use Rattle.case.specs.declared.values.Case.{Case}
 use Rattle.case.specs.Faces.{faces}
-use Rattle.case.specs.System.{column_count, over_states, over_commands, push_rows, next_rows, system}
+use Rattle.case.specs.System.{over_states, over_commands, push_rows, next_rows, system}
 use Rattle.case.specs.Values.{CaseValues, state_count, push_count, values_of}
 use Rattle.case.proofs.Faces.{faces_count}
 use Rattle.case.proofs.Stored.{states_are, pushes_are, extras_are}
@@ -31,6 +31,3 @@ system_count k fs region =
 pub case_rows : (c : Case) (region : List Row) → 2 * c.states + c.extras + length region + 2 * c.pushes + 2 * c.states ≡ length (system (values_of c) (faces (values_of c)) region)
 case_rows c region =
     omega (arith, system_count (values_of c) (faces (values_of c)) region, faces_count (values_of c), states_are c, pushes_are c, extras_are c)
-
-pub case_columns : (c : Case) → c.states + c.inputs + c.pushes + c.states ≡ column_count (values_of c)
-case_columns c = omega (arith, states_are c, pushes_are c)

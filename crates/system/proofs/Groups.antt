@@ -7,8 +7,8 @@ use Rattle.case.specs.declared.values.Case.{Case}
 use Rattle.case.specs.Faces.{faces}
 use Rattle.case.specs.System.{over_states, over_commands, push_rows, next_rows, system}
 use Rattle.case.specs.Values.{CaseValues, values_of}
-use Rattle.case.proofs.Faces.{faces_count}
-use Rattle.case.proofs.Stored.{states_are, pushes_are, extras_are}
+use Rattle.case.proofs.Faces.{case_faces}
+use Rattle.case.proofs.Stored.{pushes_are}
 use Rattle.system.proofs.Counts.{push_rows_count, case_rows}
 
 -- the groups after the faces, and after the region's rows
@@ -29,12 +29,12 @@ past_region k fs region j f r e h le =
 pub face_at : (c : Case) (region : List Row) (j : ℕ) → j < 2 * c.states + c.extras → over_states (values_of c) (get_or (faces (values_of c)) j no_row) ≡ get_or (system (values_of c) (faces (values_of c)) region) j no_row
 face_at c region j lt =
     let k = values_of c in
-    let h : j < length (faces k) = omega (arith, faces_count k, states_are c, extras_are c) in
+    let h : j < length (faces k) = omega (arith, case_faces c) in
     let h' : j < length (map (over_states k) (faces k)) = omega (arith, length-map (faces k) (over_states k)) in
     sym (get_or_append_left (map (over_states k) (faces k)) (after_faces k region) no_row j h' ∙ get_or-map (over_states k) (faces k) j no_row no_row h)
 
 faces_are : (c : Case) → length (faces (values_of c)) ≡ 2 * c.states + c.extras
-faces_are c = omega (arith, faces_count (values_of c), states_are c, extras_are c)
+faces_are c = sym (case_faces c)
 
 pub region_at : (c : Case) (region : List Row) (j : ℕ) → 2 * c.states + c.extras ≤ j → j < 2 * c.states + c.extras + length region → over_commands (values_of c) (get_or region (j - (2 * c.states + c.extras)) no_row) ≡ get_or (system (values_of c) (faces (values_of c)) region) j no_row
 region_at c region j le lt =

@@ -48,7 +48,7 @@ impl<'a, 't, C: Controller> ClosedLoop<'a, 't, C> {
         Ok(System {
             closed: self,
             region,
-            rows: 2 * case.states + case.extras + rows + 2 * case.pushes + 2 * case.states,
+            rows: case.face_count() + rows + 2 * case.pushes + 2 * case.states,
         })
     }
 }

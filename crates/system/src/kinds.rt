@@ -48,7 +48,8 @@ pub(crate) fn extra_row(case: &Case, j: usize, coefficients: &mut [i64]) -> i64
     face.right
 }
 
-// Writes sign × the rows of an equation, and its own coefficient at the next state i.
+// Writes sign × the rows of an equation, and its own coefficient at the next state i. Limits and sign stand in clauses: they
+// concern arguments of this one call.
 fn fill_next(
     case: &Case,
     i: usize,

@@ -26,7 +26,7 @@ pub fn system_row<C: Controller>(
     if row < 1 || row > system.rows {
         return Err(SystemFault::Missing);
     }
-    if coefficients.len() != case.states + case.inputs + case.pushes + case.states {
+    if coefficients.len() != case.column_count() {
         return Err(SystemFault::Length);
     }
     Ok(system.row(row - 1, coefficients))

@@ -33,6 +33,6 @@ pub fn system_size<C: Controller>(
     let system = closed.system(region)?;
     Ok(SystemSize {
         rows: system.rows,
-        columns: case.states + case.inputs + case.pushes + case.states,
+        columns: case.column_count(),
     })
 }

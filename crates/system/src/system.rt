@@ -25,7 +25,8 @@ pub struct System<'l, 'a, 't, C: Controller> {
 impl<'l, 'a, 't, C: Controller> System<'l, 'a, 't, C> {
     ghost use Rattle.system.specs.Systems.{case_of, control_of, rows_of, columns_of};
 
-    // Row j, counted from 0: its coefficients go into the list, and its right side is the answer.
+    // Row j, counted from 0: its coefficients go into the list, and its right side is the answer. The length of the list stands
+    // in clauses, here and below, as in kinds: a struct can hold no fact about a list that it lends to be written.
     pub fn row(&self, j: usize, coefficients: &mut [i64]) -> i64
         requires place { j < self.now.rows }
         requires long { length coefficients.old ≡ columns_of self.now }

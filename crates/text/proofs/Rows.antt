@@ -1,5 +1,5 @@
 -- A row of numbers, field by field.
-use Rattle.std.proofs.Common.{◌≡◌, ℕ, ◌+◌, ◌-◌, ◌<◌, ◌≤◌, List, [], ◌∷◌, ◌++◌, length, get_or, take, drop, set, replicate, ℤ, pos, IsErrAnd, Some, Ok, Err, Option, Result, sym, refl, ap, ◌∙◌, append_assoc, arith}
+use Rattle.std.proofs.Common.{◌≡◌, ℕ, ◌+◌, ◌-◌, ◌<◌, ◌≤◌, List, [], ◌∷◌, ◌++◌, length, get_or, take, drop, set, replicate, ℤ, pos, IsErrAnd, Some, None, Ok, Err, Option, Result, ok_or, option_map, sym, refl, ap, ◌∙◌, append_assoc, arith}
 use Rattle.std.proofs.lemmas.List.{at_drop_more, at_drop_all, take_more_set, drop-set-lt, drop-drop, drop-replicate, length-take-le, append-nil, take-append-drop}
 use Rattle.std.proofs.lemmas.Result.{err_from_is_err_and}
 use Rattle.text.specs.Lines.{numbers_of, next_number, after_field, end_of, bind, place, padded_to, padded, padded_line, cut_at, row_of, numbers_by, numbers_line, row_width}
@@ -10,6 +10,17 @@ use Rattle.text.specs.declared.faults.TextFault.{TextFault}
 -- the exit of a `?` that hands the fault on as it is
 pub err_is : {X E : Type 0} (r : Result X E) (e : E) → IsErrAnd r (λ y. y ≡ e) → r ≡ Err e
 err_is r e b = let p = err_from_is_err_and r b in p.1 ∙ ap Err p.2
+
+-- an option as it is seen, known to be there or not
+pub seen_some : {X Y : Type 0} (f : X → Y) (o : Option X) (x : X) (s : Option Y) → o ≡ Some x → option_map f o ≡ s → Some (f x) ≡ s
+seen_some f o x s is seen = sym (ap (option_map f) is) ∙ seen
+
+pub seen_none : {X Y : Type 0} (f : X → Y) (o : Option X) (s : Option Y) → o ≡ None → option_map f o ≡ s → None ≡ s
+seen_none f o s is seen = sym (ap (option_map f) is) ∙ seen
+
+-- the fault that an absent option is told as
+pub absent_told : {X E : Type 0} (o : Option X) (e f : E) → Err f ≡ ok_or o e → o ≡ None → f ≡ e
+absent_told {X = X} {E = E} o e f told is = let z : ◌≡◌ {A = Result X E} (Err f) (Err e) = told ∙ ap (λ p. ok_or p e) is in cc
 
 -- numbers behind those that are read already
 abbrev pub onto : List ℤ → Result (List ℤ) TextFault → Result (List ℤ) TextFault

@@ -82,9 +82,9 @@ impl<'a> Fields<'a> {
         ensures left { left_of self.new ≡ cond (is_ok result) (after_field (left_of self.old)) (left_of self.old) }
         ensures inside { IfOk result (λ z. (limit.low ≤ℤ z) × (z ≤ℤ limit.high)) }
     {
-        let Some(rest) = self.rest else {
-            return Err(TextFault::Field(place, FieldFault::Malformed));
-        };
+        let rest = self
+            .rest
+            .ok_or(TextFault::Field(place, FieldFault::Malformed))?;
         let (field, left) = split_field(rest);
         let number = field_number(field, limit).map_err(|fault| TextFault::Field(place, fault))?;
         self.rest = left;

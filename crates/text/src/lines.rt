@@ -41,9 +41,7 @@ pub fn row_line<'a>(
     ensures value { with_rest result ≡ padded_line (numbers_line line (take row_width limits.now) text.now) }
     ensures form { RowForm (take row_width limits.now) text.now }
 {
-    let Some((bytes, rest)) = cut(text, b'\n') else {
-        return Err(TextFault::Line(line));
-    };
+    let (bytes, rest) = cut(text, b'\n').ok_or(TextFault::Line(line))?;
     let row = Fields::of(bytes).row(line, 0, limits)?;
     Ok((row, rest))
 }

@@ -51,9 +51,7 @@ pub fn field_number(field: &[u8], limit: Limit) -> Result<i64, FieldFault>
     ensures inside { IfOk result (λ z. (limit.low ≤ℤ z) × (z ≤ℤ limit.high)) }
     ensures form { NumberForm field.now }
 {
-    let Some(number) = wide_number(field) else {
-        return Err(FieldFault::Malformed);
-    };
+    let number = wide_number(field).ok_or(FieldFault::Malformed)?;
     if number < i128::from(limit.low) || i128::from(limit.high) < number {
         return Err(FieldFault::Outside);
     }

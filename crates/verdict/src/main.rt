@@ -32,6 +32,7 @@ fn fill(rt: &HostRuntime, buffer: &mut [u8]) -> anyhow::Result<usize>
 }
 
 fn main(rt: HostRuntime) -> anyhow::Result<()> {
+    // Fixed memory, as in the library: the text and the record are lent to it.
     let mut buffer = [0u8; MOST_READ];
     let len = fill(&rt, &mut buffer)?;
     let mut line = [0u8; RECORD_SIZE];

@@ -6,6 +6,7 @@ use Rattle.case.specs.Texts.{case_of}
 use Rattle.control.specs.Meaning.{Meaning}
 use Rattle.laws.specs.Controllers.{controlled}
 use Rattle.laws.proofs.Making.{controller_read, controller_refused}
+use Rattle.report.specs.declared.verdict.Verdict.TheVariants.{Read}
 use Rattle.judge.specs.Judging.{case_verdict, verdict_by, counts_verdict}
 use Rattle.judge.proofs.Counts.{counted, refused}
 use Rattle.judge.proofs.read_counts.Goals as goal
@@ -25,6 +26,7 @@ pub returns : goal.returns
 returns c =
     let k = controller_read c.args.text.now (controlled c.in_ok-law.law) c.in_ok-law.rest.now c.in_ok-law.ensures in
     let h = c.in_ok-read_case.ensures in
-    counted c.regions.result (case_of c.in_ok-law.rest.now) _ (stored c.read_case.new.place) h.value h.place
+    ap (Read c.regions.result) c.face_count.ensures.sum
+    ∙ counted c.regions.result (case_of c.in_ok-law.rest.now) _ (stored c.read_case.new.place) h.value h.place
     ∙ ap (λ n. case_verdict n c.in_ok-law.rest.now) (c.regions.ensures ∙ ap (λ (m : Meaning). length m.regions) k.2)
     ∙ sym (ap verdict_by k.1)

@@ -26,5 +26,6 @@ returns c =
     let h = c.in_ok-read_case.ensures in
     let case = c.read_case.new.place in
     let k : CaseKnown (case_of c.args.text.now) case = case_known (case_of c.args.text.now) _ case h.value h.place h.meant in
-    ap (λ n. Ok (record { regions = n; faces = (told_counts (controlled c.args.law.now) case).faces })) c.regions.ensures
+    ap (λ n. Ok (record { regions = n; faces = c.face_count.result })) c.regions.ensures
+    ∙ ap (λ n. Ok (record { regions = (told_counts (controlled c.args.law.now) case).regions; faces = n })) c.face_count.ensures.sum
     ∙ sym (case_checked (controlled c.args.law.now) c.args.text.now case (Ok tt) k c.in_ok-check.ensures.value)

@@ -7,9 +7,9 @@ use Rattle.control.specs.Answers.{present}
 use Rattle.control.specs.Limits.{coefficient_limit, right_limit}
 use Rattle.case.specs.Faces.{faces}
 use Rattle.case.specs.System.{none}
+use Rattle.case.proofs.Faces.{case_columns}
 use Rattle.system.specs.Systems.{case_of, control_of, rows_of}
 use Rattle.system.specs.declared.system.System.{System}
-use Rattle.system.proofs.Counts.{case_columns}
 use Rattle.certificate.specs.Tests.{face_of}
 use Rattle.certificate.proofs.Faced.{FaceReady, face_small, face_right, right_small, face_front, sums_front, first_is, answer_unequal, answer_equal}
 use Rattle.certificate.proofs.Found.{blank_is}

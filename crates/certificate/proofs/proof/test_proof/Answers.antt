@@ -8,7 +8,7 @@ use Rattle.certificate.specs.Tests.{in_limit, all_in_limit, equations_of, face_o
 use Rattle.certificate.specs.declared.fault.ProofFault.TheVariants.{Range}
 use Rattle.certificate.proofs.Outcomes.{face_there, face_missing, answer_missing, answer_length, answer_range, answer_tested}
 use Rattle.certificate.proofs.proof.test_proof.Goals as goal
-use Rattle.certificate.proofs.proof.test_proof.Goals.{then-face-lt1-via-then-face-lt1, then-face-lt1-via-else-face-lt1+then-face-case}
+use Rattle.certificate.proofs.proof.test_proof.Goals.{then-face-lt1-via-then-face-lt1, then-face-lt1-via-else-face-lt1+then-face-face_count}
 
 pub returns-then-face-lt1-clause-value : goal.returns-then-face-lt1-clause-value
 returns-then-face-lt1-clause-value g c =
@@ -19,7 +19,7 @@ returns-then-face-lt1-clause-value g c =
     answer_missing (values_of v) m c.args.region c.args.face c.args.scale c.args.multipliers.now agree there
     (face_missing v c.args.face
     (λ low high.
-    elim c.then-face-lt1.branch [ then-face-lt1-via-then-face-lt1 w ↦ omega arith | then-face-lt1-via-else-face-lt1+then-face-case w ↦ omega arith ]))
+    elim c.then-face-lt1.branch [ then-face-lt1-via-then-face-lt1 w ↦ omega arith | then-face-lt1-via-else-face-lt1+then-face-face_count w ↦ omega arith ]))
 
 pub returns-then-multipliers-system-clause-value : goal.returns-then-multipliers-system-clause-value
 returns-then-multipliers-system-clause-value g c =

@@ -7,7 +7,6 @@ use Rattle.certificate.specs.Tests.{all_in_limit}
 use Rattle.checking.specs.Checking.{proof_line, equations_at}
 use Rattle.checking.specs.Marks.{marked}
 use Rattle.checking.specs.declared.faults.CheckFault.TheVariants.{Text, Repeated}
-use Rattle.checking.proofs.Indices.{case_faces}
 use Rattle.checking.proofs.Judging.{fault_told, region_read, face_read, region_goes, face_stops, pair_read, pair_stops, pair_goes, numbers_stop, numbers_go, proof_stops, proof_goes}
 use Rattle.checking.proofs.Numbers.{numbers_refused, numbers_got}
 use Rattle.checking.proofs.lines.check_line.Goals as goal
@@ -21,7 +20,7 @@ returns-in_err-face g c =
     let bytes = c.args.bytes.now in
     let left = c.in_ok-region.ensures.left ∙ ap after_field c.of-fields.ensures in
     let first = region_read v m named line bytes _ _ _ c.in_ok-region.ensures.value c.regions.ensures c.of-fields.ensures in
-    let second = face_read v m named line bytes _ _ _ c.in_err-face.ensures.value (case_faces c.args.closed.now.case.now) left in
+    let second = face_read v m named line bytes _ _ _ c.in_err-face.ensures.value c.face_count.ensures.value left in
     let e = c.in_err-face.field-0.0 in
     fault_told _ _ _ c.from_residual-in_err-face.result e (err_is c.from_residual-in_err-face.result e c.from_residual-in_err-face.ensures.1)
     (face_stops v m named line bytes c.in_ok-region.region e second ∙ region_goes v m named line bytes c.in_ok-region.region first)
@@ -35,7 +34,7 @@ returns-then-has g c =
     let bytes = c.args.bytes.now in
     let region = c.in_ok-region.region in
     let face = c.in_ok-face.face in
-    let read = pair_read v m named line bytes c.regions.result _ region face _ _ c.regions.ensures (case_faces c.args.closed.now.case.now) c.of-fields.ensures c.in_ok-region.ensures.left c.in_ok-region.ensures.value c.in_ok-face.ensures.value in
+    let read = pair_read v m named line bytes c.regions.result _ region face _ _ c.regions.ensures c.face_count.ensures.value c.of-fields.ensures c.in_ok-region.ensures.left c.in_ok-region.ensures.value c.in_ok-face.ensures.value in
     sym read ∙ pair_stops v m named line bytes region face (sym c.has.ensures ∙ c.if-has.true) ∙ ap (λ p. Err (Repeated line p)) (sym c.into.ensures)
 
 pub returns-in_err-numbers : goal.returns-in_err-numbers
@@ -47,7 +46,7 @@ returns-in_err-numbers g c =
     let bytes = c.args.bytes.now in
     let region = c.in_ok-region.region in
     let face = c.in_ok-face.face in
-    let read = pair_read v m named line bytes c.regions.result _ region face _ _ c.regions.ensures (case_faces c.args.closed.now.case.now) c.of-fields.ensures c.in_ok-region.ensures.left c.in_ok-region.ensures.value c.in_ok-face.ensures.value in
+    let read = pair_read v m named line bytes c.regions.result _ region face _ _ c.regions.ensures c.face_count.ensures.value c.of-fields.ensures c.in_ok-region.ensures.left c.in_ok-region.ensures.value c.in_ok-face.ensures.value in
     let fresh = pair_goes v m named line bytes region face (sym c.has.ensures ∙ c.if-has.false) in
     let behind = c.in_ok-face.ensures.left ∙ ap after_field (c.in_ok-region.ensures.left ∙ ap after_field c.of-fields.ensures) in
     let e = c.in_err-numbers.field-0.0 in
@@ -56,7 +55,7 @@ returns-in_err-numbers g c =
     (numbers_stop v m named line bytes region face (Text e) stop ∙ sym fresh ∙ read)
 
 pub prove-requires-clause-face : goal.prove-requires-clause-face
-prove-requires-clause-face g c = let f = c.in_ok-face.ensures.inside in omega (arith, f.1, case_faces c.args.closed.now.case.now)
+prove-requires-clause-face g c = let f = c.in_ok-face.ensures.inside in omega (arith, f.1, c.face_count.ensures.value)
 
 pub prove-requires-clause-limits : goal.prove-requires-clause-limits
 prove-requires-clause-limits g c =
@@ -78,7 +77,7 @@ returns-in_err-prove g c =
     let bytes = c.args.bytes.now in
     let region = c.in_ok-region.region in
     let face = c.in_ok-face.face in
-    let read = pair_read v m named line bytes c.regions.result _ region face _ _ c.regions.ensures (case_faces c.args.closed.now.case.now) c.of-fields.ensures c.in_ok-region.ensures.left c.in_ok-region.ensures.value c.in_ok-face.ensures.value in
+    let read = pair_read v m named line bytes c.regions.result _ region face _ _ c.regions.ensures c.face_count.ensures.value c.of-fields.ensures c.in_ok-region.ensures.left c.in_ok-region.ensures.value c.in_ok-face.ensures.value in
     let fresh = pair_goes v m named line bytes region face (sym c.has.ensures ∙ c.if-has.false) in
     let behind = c.in_ok-face.ensures.left ∙ ap after_field (c.in_ok-region.ensures.left ∙ ap after_field c.of-fields.ensures) in
     let got = numbers_got v m region line bytes c.row_count-count.result _ c.row_count-count.ensures.value c.row_count-count.ensures.few behind c.in_ok-numbers.numbers c.in_ok-numbers.ensures.value in
@@ -97,7 +96,7 @@ returns g c =
     let bytes = c.args.bytes.now in
     let region = c.in_ok-region.region in
     let face = c.in_ok-face.face in
-    let read = pair_read v m named line bytes c.regions.result _ region face _ _ c.regions.ensures (case_faces c.args.closed.now.case.now) c.of-fields.ensures c.in_ok-region.ensures.left c.in_ok-region.ensures.value c.in_ok-face.ensures.value in
+    let read = pair_read v m named line bytes c.regions.result _ region face _ _ c.regions.ensures c.face_count.ensures.value c.of-fields.ensures c.in_ok-region.ensures.left c.in_ok-region.ensures.value c.in_ok-face.ensures.value in
     let fresh = pair_goes v m named line bytes region face (sym c.has.ensures ∙ c.if-has.false) in
     let behind = c.in_ok-face.ensures.left ∙ ap after_field (c.in_ok-region.ensures.left ∙ ap after_field c.of-fields.ensures) in
     let got = numbers_got v m region line bytes c.row_count-count.result _ c.row_count-count.ensures.value c.row_count-count.ensures.few behind c.in_ok-numbers.numbers c.in_ok-numbers.ensures.value in

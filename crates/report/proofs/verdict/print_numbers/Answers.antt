@@ -1,12 +1,12 @@
 -- There is room for each number, and each is written behind those before it.
-use Rattle.std.proofs.Common.{◌≡◌, ℕ, ◌+◌, length, set, ℤ, pos, ap, ◌∙◌, arith, w32, w64, Fits, to_z, of_z}
+use Rattle.std.proofs.Common.{◌≡◌, ℕ, ◌+◌, length, set, ℤ, pos, is_some, sym, ap, ◌∙◌, arith, w32, w64, Fits, to_z, of_z}
 use Rattle.std.proofs.lemmas.Int.{ints}
 use Rattle.std.specs.List.{flat_map}
 use Rattle.std.proofs.lemmas.List.{length-set, take_all}
 use Rattle.report.specs.Verdicts.{spaced}
 use Rattle.report.specs.Written.{written}
 use Rattle.report.proofs.Spacing.{length_front, room_more, tail_room, turn}
-use Rattle.report.proofs.Writing.{room_none}
+use Rattle.report.proofs.Writing.{room_fits}
 use Rattle.report.proofs.verdict.print_numbers.Goals as goal
 
 -- a number of 32 bits, as a signed one of 64 bits
@@ -16,8 +16,8 @@ number_is z n f e = omega (arith, ints)
 pub loop-number-preserved : goal.loop-number-preserved
 loop-number-preserved c =
     let e = number_is _ _ (c.type_inv.numbers c.loop-number.number-index) c.from.ensures in
-    turn c.args.numbers.now c.args.out.now c.loop-number.out c.write_number.new.out c.loop-number.number-index c.loop-number.at c.in-Some.count _
-    c.loop-number-test.true c.loop-number.invariant.0 c.loop-number.invariant.1 c.requires c.loop-number.auto.out e c.in-Some.ensures.count c.in-Some.ensures.bytes
+    turn c.args.numbers.now c.args.out.now c.loop-number.out c.write_number.new.out c.loop-number.number-index c.loop-number.at c.unwrap-at.result _
+    c.loop-number-test.true c.loop-number.invariant.0 c.loop-number.invariant.1 c.requires c.loop-number.auto.out e (sym c.unwrap-at.ensures ∙ c.write_number.ensures.count) c.write_number.ensures.bytes
 
 pub bounds-out-at : goal.bounds-out-at
 bounds-out-at c = omega (arith, room_more c.args.numbers.now c.loop-number.number-index c.loop-number-test.true)
@@ -33,19 +33,16 @@ pub slice_bounds-write_number-start : goal.slice_bounds-write_number-start
 slice_bounds-write_number-start c =
     omega (arith, room_more c.args.numbers.now c.loop-number.number-index c.loop-number-test.true, length-set c.loop-number.out c.loop-number.at 32)
 
-pub overflow_add-at-in-Some : goal.overflow_add-at-in-Some
-overflow_add-at-in-Some c = omega (arith, (loop-number-preserved c).0, length_front c.args.numbers.now (c.loop-number.number-index + 1))
+pub overflow_add-at-in-loop-number : goal.overflow_add-at-in-loop-number
+overflow_add-at-in-loop-number c = omega (arith, (loop-number-preserved c).0, length_front c.args.numbers.now (c.loop-number.number-index + 1))
 
-pub unreachable-requires : goal.unreachable-requires
-unreachable-requires c =
+pub unwrap-at-requires : goal.unwrap-at-requires
+unwrap-at-requires c =
     let e = number_is _ _ (c.type_inv.numbers c.loop-number.number-index) c.from.ensures in
     let out = set c.loop-number.out c.loop-number.at 32 in
-    omega (
-      arith,
-      room_none _ _ c.in-None.ensures.count,
-      tail_room c.args.numbers.now out c.loop-number.number-index c.loop-number.at _ c.loop-number-test.true c.loop-number.invariant.0
-          (omega (arith, length-set c.loop-number.out c.loop-number.at 32)) e,
-    )
+    let fits = tail_room c.args.numbers.now out c.loop-number.number-index c.loop-number.at _ c.loop-number-test.true c.loop-number.invariant.0
+    (omega (arith, length-set c.loop-number.out c.loop-number.at 32)) e in
+    ap is_some (c.write_number.ensures.count ∙ room_fits _ _ fits)
 
 pub returns : goal.returns
 returns c =

@@ -10,7 +10,7 @@ use Rattle.case.specs.Faces.{unit}
 use Rattle.case.specs.System.{column_count}
 use Rattle.case.specs.Values.{values_of}
 use Rattle.case.proofs.Stored.{ok_equation}
-use Rattle.system.proofs.Counts.{case_columns}
+use Rattle.case.proofs.Faces.{case_columns}
 use Rattle.system.proofs.Filling.{next_filled}
 use Rattle.system.proofs.kinds.fill_next.Goals as goal
 
