@@ -31,10 +31,11 @@ impl Fixed {
         ensures made { is_some result ≡ fixed_ok states commands.now }
         ensures held { IfSome result (λ s. (s.states.count ≡ states) × (items s.commands ≡ commands.now)) }
     {
+        // The states first: a list of commands may be long.
+        let states = States::of(states)?;
         if !all_within(commands, SETTING_LIMIT) {
             return None;
         }
-        let states = States::of(states)?;
         let commands = PerInput::of(commands)?;
         Some(Fixed { states, commands })
     }

@@ -1,6 +1,6 @@
 -- A law text from its parts.
-use Rattle.std.proofs.Common.{◌≡◌, ℕ, List, length, ℤ, Ok, Err, Result, sym, refl, ap, ◌∙◌, arith}
-use Rattle.text.specs.Blocks.{rows_held}
+use Rattle.std.proofs.Common.{◌≡◌, ◌≤◌, ℕ, List, [], ◌∷◌, length, ℤ, Ok, Err, Result, sym, refl, ap, ◌∙◌, arith}
+use Rattle.text.specs.Blocks.{held_rows, rows_held}
 use Rattle.text.specs.Lines.{bind, size_of, names_line}
 use Rattle.text.proofs.Collecting.{rows_length}
 use Rattle.text.proofs.Forming.{ok_same}
@@ -16,6 +16,13 @@ after_names rest = bind (head_line rest) (λ h. body_of h.0 h.1)
 
 abbrev after_size : List ℕ → Result (LawText × List ℕ) LawFault
 after_size text = bind (as_law (names_line 1 law_names text)) after_names
+
+-- up to two rows are held as they are stored
+held_two : (rows : List (List ℤ)) → length rows ≤ 2 → held_rows 2 rows ≡ stored_rows rows
+held_two [] few = refl
+held_two (a ∷ []) few = refl
+held_two (a ∷ b ∷ []) few = refl
+held_two (a ∷ b ∷ c ∷ rows) few = absurd (omega arith)
 
 module _ (text : List ℕ) (u : Unit {0}) (size : Ok u ≡ size_of text) where
   sized : after_size text ≡ law_of text
@@ -39,16 +46,16 @@ module _ (text : List ℕ) (u : Unit {0}) (size : Ok u ≡ size_of text) where
         lined : after_row_names lines ≡ law_of text
         lined = ap (λ r. bind (as_law r) after_row_names) row_named ∙ bodied
 
-        pub rows_read : (rows : List (List ℤ)) (after : List ℕ) → Ok (rows, after) ≡ rows_held 2 (rows_of head.kind head.states head.inputs 4 lines)
+        pub rows_read : head.inputs ≤ 2 → (rows : List (List ℤ)) (after : List ℕ) → Ok (rows, after) ≡ rows_held 2 (rows_of head.kind head.states head.inputs 4 lines)
             → Ok (head, rows, after) ≡ law_stored (law_of text)
-        rows_read rows after h = by_rows (rows_of head.kind head.states head.inputs 4 lines) refl h ∙ ap law_stored lined
+        rows_read few rows after h = by_rows (rows_of head.kind head.states head.inputs 4 lines) refl h ∙ ap law_stored lined
           where
             by_rows : (r : Result (List (List ℤ) × List ℕ) LawFault) → rows_of head.kind head.states head.inputs 4 lines ≡ r → Ok (rows, after) ≡ rows_held 2 r
                 → Ok (head, rows, after) ≡ law_stored (bind r built)
             by_rows (Ok p) q k =
-                let s = ok_same (rows, after) (stored_rows p.0, p.1) k in
+                let s = ok_same (rows, after) (held_rows 2 p.0, p.1) k in
                 let l : length p.0 ≡ head.inputs = rows_length Text (ordered head.kind head.states) (row_limits head.kind head.states) head.inputs 4 lines p q in
-                ap (λ t. Ok (head, t.0, t.1)) s
+                ap (λ t. Ok (head, t.0, t.1)) s ∙ ap (λ t. Ok (head, t, p.1)) (held_two p.0 (omega (arith, l, few)))
                 ∙ ap (λ m. Ok (record { kind = head.kind; states = head.states; inputs = m }, stored_rows p.0, p.1)) (sym l)
             by_rows (Err d) q k = grind arith
 

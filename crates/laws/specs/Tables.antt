@@ -1,8 +1,9 @@
 -- What a law text stores in the caller's place, and the answer beside it.
-use Rattle.std.specs.Prelude.{ℕ, ◌+◌, ◌-◌, List, [], ◌∷◌, ◌++◌, length, take, replicate, ℤ, pos, Ok, Err, Result, slice_index_or}
+use Rattle.std.specs.Prelude.{ℕ, ◌+◌, ◌-◌, List, [], ◌∷◌, ◌++◌, map, length, take, replicate, ℤ, pos, Ok, Err, Result, slice_index_or}
 use Rattle.std.specs.Borrow.{Bor}
 use Rattle.control.specs.declared.input.Input.{Input}
-use Rattle.text.specs.Blocks.{held_rows}
+use Rattle.text.specs.Lines.{padded}
+pub use Rattle.text.specs.Blocks.{zero_row}
 use Rattle.laws.specs.Laws.{LawText, Head}
 use Rattle.laws.specs.declared.faults.LawFault.{LawFault}
 use Rattle.laws.specs.declared.head.LawHead.{LawHead}
@@ -10,6 +11,10 @@ use Rattle.laws.specs.declared.table.LawKind.{LawKind}
 use Rattle.laws.specs.declared.table.LawKind.TheVariants.{Saturated, Fixed}
 use Rattle.laws.specs.declared.table.LawTable.{LawTable}
 use Rattle.laws.specs.declared.table.LawTable.TheVariants.{Saturated as SaturatedTable, Fixed as FixedTable}
+
+-- the first two of a list, with a value for those that it lacks
+abbrev pub two : {X : Type 0} → X → List X → List X
+two d xs = slice_index_or xs 0 d ∷ slice_index_or xs 1 d ∷ []
 
 -- gains, offset, divisor, low and high of a row at n states
 abbrev pub input_of : ℕ → List ℤ → Input
@@ -28,7 +33,7 @@ table_of Fixed n rows = FixedTable (slice_index_or (slice_index_or rows 0 []) 0 
 
 -- rows as they are stored: two of them, each with zeros up to its width
 abbrev pub stored_rows : List (List ℤ) → List (List ℤ)
-stored_rows rows = held_rows 2 rows
+stored_rows rows = two zero_row (map padded rows)
 
 abbrev pub stored : LawText → LawTable
 stored law = table_of law.kind law.states (stored_rows law.rows)

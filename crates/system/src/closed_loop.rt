@@ -1,9 +1,11 @@
 // The closed loop of a case and a controller.
-ghost use Rattle.std.specs.Prelude.{◌≡◌, ◌↔◌, IsTrue, IsOk, IfOk, IfErr};
-ghost use Rattle.control.specs.Answers.{present};
+ghost use Rattle.std.specs.Prelude.{◌≡◌, ◌≤◌, ◌↔◌, IsTrue, IsOk, IfOk, IfErr, OnOk};
+ghost use Rattle.control.specs.Answers.{present, region_of};
 ghost use Rattle.control.specs.Means.{meaning_of};
 ghost use Rattle.case.specs.Values.{values_of};
-ghost use Rattle.system.specs.Answers.{fits};
+ghost use Rattle.case.specs.System.{column_count};
+ghost use Rattle.system.specs.Answers.{fits, most_system_rows, most_columns};
+ghost use Rattle.system.specs.Bridge.{Bridge};
 ghost use Rattle.system.specs.declared.fault.SystemFault.TheVariants.{Sizes, Missing};
 
 use super::fault::SystemFault;
@@ -34,11 +36,13 @@ impl<'a, 't, C: Controller> ClosedLoop<'a, 't, C> {
         Ok(ClosedLoop { case, controller })
     }
 
-    // The system of a region that the controller has.
+    // The system of a region that the controller has. Its rows say exactly that a step is one of the loop.
     pub fn system<'l>(&'l self, region: usize) -> Result<System<'l, 'a, 't, C>, SystemFault>
         ensures there { IsOk result ↔ IsTrue (present (C.partition self.now.controller.now) region) }
         ensures parts { IfOk result (λ s. (s.closed.now ≡ self.now) × (s.region ≡ region)) }
         ensures missing { IfErr result (λ fault. fault ≡ Missing) }
+        ensures limits { IfOk result (λ s. (s.rows ≤ most_system_rows) × (column_count (values_of s.closed.now.case.now) ≤ most_columns)) }
+        ensures bridge { OnOk result (Bridge (values_of self.now.case.now) (region_of (meaning_of C.Controller self.now.controller.now) region)) }
     {
         let case = self.case;
         let rows = self
