@@ -4,7 +4,7 @@ use Rattle.std.proofs.lemmas.Int.{ints}
 use Rattle.arith.specs.Bounds.{Within, all_within}
 use Rattle.arith.proofs.Bounds.{all_from_test}
 use Rattle.elimination.specs.declared.row.Row.{Row}
-use Rattle.fourier.specs.Cone.{is_positive, is_negative}
+use Rattle.fourier.specs.Cone.{is_zero, is_positive, is_negative}
 use Rattle.elimination.specs.Rows.{BlankForm}
 use Rattle.elimination.proofs.Mixed.{within_get_or}
 
@@ -12,6 +12,10 @@ pub false_true : {P : Type 0} → false ≡ true → P
 false_true e = absurd (subst T (sym e) tt)
 
 -- a test, as a fact
+pub zero_is : (z : ℤ) → is_zero z ≡ true → z ≡ pos 0
+zero_is (pos zero) e = refl
+zero_is (pos (suc n)) e = false_true e
+zero_is (negsuc n) e = false_true e
 
 pub positive_is : (z : ℤ) → is_positive z ≡ true → z ≡ pos (nat_abs z)
 positive_is (pos n) e = refl
@@ -29,6 +33,17 @@ positive_above (negsuc n) e = false_true e
 pub negative_above : (z : ℤ) → is_negative z ≡ true → 0 < nat_abs z
 negative_above (pos n) e = false_true e
 negative_above (negsuc n) e = omega arith
+
+-- of the three tests exactly one passes
+pub positive_only : (z : ℤ) → is_positive z ≡ true → (is_zero z ≡ false) × (is_negative z ≡ false)
+positive_only (pos zero) e = false_true e
+positive_only (pos (suc n)) e = (refl, refl)
+positive_only (negsuc n) e = false_true e
+
+pub negative_left : (z : ℤ) → is_zero z ≡ false → is_positive z ≡ false → is_negative z ≡ true
+negative_left (pos zero) e f = sym e
+negative_left (pos (suc n)) e f = sym f
+negative_left (negsuc n) e f = refl
 
 -- all coefficients are 0
 zero_within : (z : ℤ) → Within 0 z → z ≡ pos 0

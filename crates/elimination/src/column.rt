@@ -13,24 +13,37 @@ use super::rows::ProperRows;
 // The most rows after a column, as in specs.
 const MOST_ROWS: usize = 256;
 
-// How many rows have 0, a number above 0 and one below 0 in the column; three functions, since each is pinned by its own list
-// of rows.
-fn count_zeros(rows: &[Row], column: Column) -> usize
-    ensures { result ≡ length (zeros column rows.now) }
-{
-    rows.iter().filter(|row| row.is_zero(column)).count()
+// How many rows have 0, a number above 0 and one below 0 in a column.
+#[derive(Clone, Copy)]
+struct Signs {
+    zero: usize,
+    positive: usize,
+    negative: usize,
 }
 
-fn count_positives(rows: &[Row], column: Column) -> usize
-    ensures { result ≡ length (positives column rows.now) }
+// Counts the rows by their signs in the column, in one pass.
+fn count_signs(rows: &[Row], column: Column) -> Signs
+    ensures zero { result.zero ≡ length (zeros column rows.now) }
+    ensures positive { result.positive ≡ length (positives column rows.now) }
+    ensures negative { result.negative ≡ length (negatives column rows.now) }
 {
-    rows.iter().filter(|row| row.is_positive(column)).count()
-}
-
-fn count_negatives(rows: &[Row], column: Column) -> usize
-    ensures { result ≡ length (negatives column rows.now) }
-{
-    rows.iter().filter(|row| row.is_negative(column)).count()
+    let mut zero = 0;
+    let mut positive = 0;
+    let mut negative = 0;
+    for row in rows {
+        if row.is_zero(column) {
+            zero += 1;
+        } else if row.is_positive(column) {
+            positive += 1;
+        } else {
+            negative += 1;
+        }
+    }
+    Signs {
+        zero,
+        positive,
+        negative,
+    }
 }
 
 // Rows in places that a caller lends, as the library allocates nothing: the first count of them.
@@ -79,8 +92,8 @@ impl<'a> Rows<'a> {
     {
         for q in rows {
             if q.is_negative(column) {
-                let negative = ProperRow { row: *q };
-                self.push(combine(p, &negative, column)?.row);
+                let negative = ProperRow { row: q };
+                self.push(combine(p, &negative, column)?);
             }
         }
         Ok(())
@@ -96,7 +109,7 @@ impl<'a> Rows<'a> {
     {
         for p in rows {
             if p.is_positive(column) {
-                let positive = ProperRow { row: *p };
+                let positive = ProperRow { row: p };
                 self.join_with(&positive, rows, column)?;
             }
         }
@@ -115,8 +128,8 @@ pub fn eliminate(rows: &ProperRows, column: Column, out: &mut [Row]) -> Result<u
     ensures traced { StaysTraced column rows.now }
 {
     let rows = rows.rows;
-    let pairs = count_positives(rows, column) * count_negatives(rows, column);
-    if count_zeros(rows, column) + pairs > MOST_ROWS {
+    let signs = count_signs(rows, column);
+    if signs.zero + signs.positive * signs.negative > MOST_ROWS {
         return Err(Stop::Crowd);
     }
     let mut kept = Rows {

@@ -15,7 +15,7 @@ fn weighted_sum(x: i64, p: &ProperRow, y: i64, q: &ProperRow) -> Row
     requires factors { (Within number_limit x) × (Within number_limit y) }
     ensures value { result ≡ weighted x y p.now q.now }
 {
-    let (p, q) = (&p.row, &q.row);
+    let (p, q) = (p.row, q.row);
     Row {
         multipliers: weigh_all(x, &p.multipliers, y, &q.multipliers),
         scale: weigh(x, p.scale, y, q.scale),
@@ -82,7 +82,7 @@ fn join_sum(p: &ProperRow, q: &ProperRow, column: Column) -> Row
 // The row of p, positive in the column, and q, negative in it: their combination divided by the greatest common divisor of
 // its multipliers and scale. It stops where a number passes its limit. The signs are asked in a clause, as a row has another in
 // each column.
-pub fn combine(p: &ProperRow, q: &ProperRow, column: Column) -> Result<ProperRow, Stop>
+pub fn combine(p: &ProperRow, q: &ProperRow, column: Column) -> Result<Row, Stop>
     requires positive { is_positive (coefficient p.now column) ≡ true }
     requires negative { is_negative (coefficient q.now column) ≡ true }
     ensures value { result ≡ judged (joined_row column p.now q.now) }
@@ -91,7 +91,7 @@ pub fn combine(p: &ProperRow, q: &ProperRow, column: Column) -> Result<ProperRow
 {
     let row = reduce(&join_sum(p, q, column));
     if row.is_allowed() {
-        Ok(ProperRow { row })
+        Ok(row)
     } else {
         Err(Stop::Number)
     }

@@ -95,31 +95,29 @@ impl Row {
     }
 }
 
-// A row that an elimination may go on with: its numbers are within their limits, no multiplier and no scale is below 0, and
-// one of them is above 0.
-#[derive(Clone, Copy)]
-pub struct ProperRow {
-    pub row: Row,
+// A row that an elimination may go on with, where it stands: its numbers are within their limits, no multiplier and no scale
+// is below 0, and one of them is above 0. Whoever knows that makes it by a literal, without a test.
+#[derive(Clone, Drop)]
+pub struct ProperRow<'a> {
+    pub row: &'a Row,
 }
 
-impl Model for ProperRow {
+impl<'a> Model for ProperRow<'a> {
     ghost use Rattle.elimination.specs.declared.row.Row.{Row};
     ghost use Rattle.elimination.specs.Rows.{Proper};
 
     ghost Value = { Row };
 
-    ghost view = { λ r. r.row };
+    ghost view = { λ r. r.row.now };
 
-    ghost invariant = { λ r. Proper r.row };
-
-    ghost inverse = { λ row. record { row = row } };
+    ghost invariant = { λ r. Proper r.row.now };
 }
 
-impl ProperRow {
+impl<'a> ProperRow<'a> {
     // None where the row is not proper.
-    pub fn new(row: Row) -> Option<ProperRow>
-        ensures proper { IsSome result ↔ Proper row }
-        ensures value { IfSome result (λ r. r ≡ row) }
+    pub fn new(row: &'a Row) -> Option<ProperRow<'a>>
+        ensures proper { IsSome result ↔ Proper row.now }
+        ensures value { IfSome result (λ r. r ≡ row.now) }
     {
         if row.is_proper() {
             Some(ProperRow { row })

@@ -12,11 +12,12 @@ few c rows h =
     let m = mul-le (length (positives c rows)) (length (negatives c rows)) most_rows most_rows (omega (arith, count_by-le-length, length-filter)) (omega (arith, count_by-le-length, length-filter)) in
     omega (arith, count_by-le-length, length-filter)
 
-pub overflow_mul-pairs : goal.overflow_mul-pairs
-overflow_mul-pairs c = rw (c.count_positives.ensures, c.count_negatives.ensures) (omega (arith, few c.args.column c.rows.inside.rows.now (rw c.rows.view_is c.requires.few)))
+pub overflow_mul-signs : goal.overflow_mul-signs
+overflow_mul-signs c = rw (c.count_signs-signs.ensures.positive, c.count_signs-signs.ensures.negative) (omega (arith, few c.args.column c.rows.inside.rows.now (rw c.rows.view_is c.requires.few)))
 
-pub overflow_add-count_zeros : goal.overflow_add-count_zeros
-overflow_add-count_zeros c = rw (c.count_zeros.ensures, c.count_positives.ensures, c.count_negatives.ensures) (omega (arith, few c.args.column c.rows.inside.rows.now (rw c.rows.view_is c.requires.few)))
+pub overflow_add-signs : goal.overflow_add-signs
+overflow_add-signs c =
+    rw (c.count_signs-signs.ensures.zero, c.count_signs-signs.ensures.positive, c.count_signs-signs.ensures.negative) (omega (arith, few c.args.column c.rows.inside.rows.now (rw c.rows.view_is c.requires.few)))
 
 pub returns-clause-proper : goal.returns-clause-proper
 returns-clause-proper c = rw (← c.rows.view_is) (eliminated_proper c.args.column c.rows.inside.rows.now c.rows.invariant)

@@ -9,10 +9,6 @@ reduce-row-requires c =
     let h = c.join_sum.ensures.pair in
     rw c.join_sum.ensures.value record { multipliers = sum_multipliers _ _ _ h.first h.second; scale = sum_scale _ _ _ h.first h.second; above = sum_content _ _ _ h }
 
-pub invariant_of-result : goal.invariant_of-result
-invariant_of-result c =
-    row_proper c.args.column c.args.p.now c.args.q.now c.reduce-row.result c.join_sum.ensures.pair (c.reduce-row.ensures.value ∙ ap reduced c.join_sum.ensures.value) (sym c.is_allowed.ensures.value ∙ c.if-is_allowed.true)
-
 pub returns-then-is_allowed-clause-proper : goal.returns-then-is_allowed-clause-proper
 returns-then-is_allowed-clause-proper c =
     row_proper c.args.column c.args.p.now c.args.q.now c.reduce-row.result c.join_sum.ensures.pair (c.reduce-row.ensures.value ∙ ap reduced c.join_sum.ensures.value) (sym c.is_allowed.ensures.value ∙ c.if-is_allowed.true)
