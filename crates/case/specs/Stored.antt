@@ -2,7 +2,8 @@
 use Rattle.std.specs.Prelude.{◌≡◌, ℕ, ◌+◌, ◌*◌, ◌<◌, List, [], ◌∷◌, map, length, take, drop, ℤ, pos, Ok, Err, Result, slice_index_or}
 use Rattle.std.specs.Borrow.{Bor}
 use Rattle.control.specs.Limits.{most_states, most_inputs}
-use Rattle.text.specs.Blocks.{filled, rows_held}
+pub use Rattle.text.specs.Blocks.{filled, zero_row}
+use Rattle.text.specs.Blocks.{rows_held}
 use Rattle.text.specs.Blocks as blocks
 use Rattle.text.specs.Lines.{bind}
 use Rattle.case.specs.Limits.{most_pushes, most_extras}

@@ -74,6 +74,12 @@ lowest_within m n (pos b) r v one f g =
     negated_within (m + n) (int_div_euclid (r -ℤ v) (pos b)) (floor_within (m + n) b (r -ℤ v) w)
 lowest_within m n (negsuc b) r v one f g = absurd (omega (arith, ints))
 
+pub highest_within : (m n : ℕ) (D r v : ℤ) → pos 1 ≤ℤ D → Within m r → Within n v → Within (m + n) (highest D r v)
+highest_within m n (pos b) r v one f g =
+    let w : Within (m + n) (v +ℤ r) = (omega (arith, ints, f.0, g.0), omega (arith, ints, f.1, g.1)) in
+    floor_within (m + n) b (v +ℤ r) w
+highest_within m n (negsuc b) r v one f g = absurd (omega (arith, ints))
+
 -- the lowest value as the code computes it
 pub lowest_fits : (D r v : ℤ) → pos 1 ≤ℤ D → SFits w64 r → SFits w64 v → SFits w128 (lowest D r v)
 lowest_fits D r v one f g = wide_within (value_limit + value_limit) _ (lit< tt) (lowest_within value_limit value_limit D r v one (value_within r f) (value_within v g))

@@ -1,5 +1,6 @@
 // The next value of a state: what it aims at, and the values that its rounding permits.
 ghost use Rattle.std.specs.Prelude.{◌≡◌, ◌<◌, ◌≤◌, true, length, pos, ◌+ℤ◌, ◌*ℤ◌, ◌≤ℤ◌, IfSome, slice_index_or};
+ghost use Rattle.std.specs.List.{AllByRecursion};
 ghost use Rattle.arith.specs.Bounds.{Within, all_within};
 ghost use Rattle.control.specs.Limits.{most_states, most_inputs, state_limit, command_limit};
 ghost use Rattle.case.specs.Limits.{most_pushes, bound_limit, equation_ok};
@@ -63,6 +64,25 @@ pub struct Step<'a> {
     ghost small_state: { all_within state_limit state.now ≡ true },
     ghost small_command: { all_within command_limit command.now ≡ true },
     ghost small_pushes: { all_within bound_limit pushes.now ≡ true },
+}
+
+impl<'a> Step<'a> {
+    // The step of these values, each known to be within its range, as a controller's laws and a case's faces say of theirs.
+    #[tactic(auto, using(crate::proofs::Aims::test_from_all))]
+    pub fn new(state: &'a [i64], command: &'a [i64], pushes: &'a [i64]) -> Step<'a>
+        requires small_state { AllByRecursion (Within state_limit) state.now }
+        requires small_command { AllByRecursion (Within command_limit) command.now }
+        requires small_pushes { AllByRecursion (Within bound_limit) pushes.now }
+        ensures state { result.state.now ≡ state.now }
+        ensures command { result.command.now ≡ command.now }
+        ensures pushes { result.pushes.now ≡ pushes.now }
+    {
+        Step {
+            state,
+            command,
+            pushes,
+        }
+    }
 }
 
 // What a state aims at, by its equation.

@@ -1,6 +1,7 @@
 -- Lists of coefficients in parts, and rows that come in pairs.
-use Rattle.std.proofs.Common.{◌≡◌, ℕ, zero, suc, ◌+◌, ◌-◌, ◌*◌, ◌/◌, ◌%◌, ◌<◌, ◌≤◌, Bool, true, false, cond, eqb, List, [], ◌∷◌, ◌++◌, length, get_or, take, drop, set, ℤ, pos, negsuc, ◌+ℤ◌, ◌-ℤ◌, neg_ℤ, sym, refl, ap, ◌∙◌, arith}
+use Rattle.std.proofs.Common.{◌≡◌, ℕ, zero, suc, ◌+◌, ◌-◌, ◌*◌, ◌/◌, ◌%◌, ◌<◌, ◌≤◌, Bool, true, false, cond, eqb, List, [], ◌∷◌, ◌++◌, map, length, get_or, take, drop, set, ℤ, pos, negsuc, ◌+ℤ◌, ◌-ℤ◌, ◌*ℤ◌, neg_ℤ, sym, refl, ap, ◌∙◌, arith}
 use borrow.Rule.Slice.PartMut.{put_mid}
+use Rattle.std.proofs.lemmas.Int.{ints}
 use Rattle.std.proofs.lemmas.List.{append_assoc, length-append, length-replicate, length-take-le, take_at, drop_at, drop-replicate, set-append_left, set-append_right, replicate-append-replicate}
 use Rattle.control.specs.Answers.{no_row}
 use Rattle.control.specs.Meaning.{Row}
@@ -25,6 +26,11 @@ unit_back r n i z =
 
 pub unit_within : (a p n j : ℕ) (z : ℤ) → j < p → none a ++ (unit p j z ++ none n) ≡ unit (a + (p + n)) (a + j) z
 unit_within a p n j z lt = ap (λ l. none a ++ l) (unit_front p n j z lt) ∙ unit_back a (p + n) j z
+
+-- a list times 1
+pub map_one : (xs : List ℤ) → map (λ z. pos 1 *ℤ z) xs ≡ xs
+map_one [] = refl
+map_one (x ∷ xs) = let e : pos 1 *ℤ x ≡ x = omega (arith, ints) in ap (λ z. z ∷ map (λ y. pos 1 *ℤ y) xs) e ∙ ap (λ l. x ∷ l) (map_one xs)
 
 -- the first e of a list, as the code takes them
 pub front_long : (e : ℕ) (xs : List ℤ) → e ≤ length xs → length (take (e - 0) xs) ≡ e
