@@ -31,6 +31,10 @@ pub all_from_test : (m : ℕ) (zs : List ℤ) → all_within m zs ≡ true → A
 all_from_test m [] e = tt
 all_from_test m (z ∷ zs) e = let p = and_parts (within m z) (all_within m zs) e in (within_from_test m z p.0, all_from_test m zs p.1)
 
+pub test_from_all : (m : ℕ) (zs : List ℤ) → AllByRecursion (Within m) zs → all_within m zs ≡ true
+test_from_all m [] w = refl
+test_from_all m (z ∷ zs) w = and_from (within m z) (all_within m zs) (test_from_within m z w.0.0 w.0.1) (test_from_all m zs w.1)
+
 pub all_within_at : (m : ℕ) (zs : List ℤ) (i : ℕ) → i < length zs → all_within m zs ≡ true → within m (get_or zs i (pos 0)) ≡ true
 all_within_at m [] i lt e = absurd (omega arith)
 all_within_at m (z ∷ zs) zero lt e = (and_parts (within m z) (all_within m zs) e).0

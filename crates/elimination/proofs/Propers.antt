@@ -8,7 +8,7 @@ use Rattle.std.proofs.lemmas.Int.{ints}
 use Rattle.std.proofs.lemmas.Iterator.Search.{true_from_All}
 use Rattle.std.proofs.lemmas.List.Elements.{All-from_all_within, All-from_recursion, recursion_from_All}
 use Rattle.arith.specs.Bounds.{Within, within, all_within}
-use Rattle.arith.proofs.Bounds.{within_from_test, all_from_test}
+use Rattle.arith.proofs.Bounds.{within_from_test, all_from_test, test_from_all}
 use Rattle.elimination.specs.declared.row.Row.{Row}
 use Rattle.elimination.specs.Rows.{multiplier_limit, number_limit, allowed, low, weighty, proper, Weighty, Proper}
 
@@ -26,10 +26,6 @@ lt_test z h = grind (arith, ints)
 
 within_test : (m : ℕ) (z : ℤ) → Within m z → within m z ≡ true
 within_test m z w = grind (arith, ints)
-
-all_within_test : (m : ℕ) (zs : List ℤ) → AllByRecursion (Within m) zs → all_within m zs ≡ true
-all_within_test m [] w = refl
-all_within_test m (z ∷ zs) w = rw (within_test m z w.0) (all_within_test m zs w.1)
 
 all_low_fact : (zs : List ℤ) → list_all (λ z. le_z (pos 0) z) zs ≡ true → AllByRecursion (λ m. pos 0 ≤ℤ m) zs
 all_low_fact [] e = tt
@@ -92,7 +88,7 @@ proper_fact r long wide e =
 
 proper_test : (r : Row) → Proper r → proper r ≡ true
 proper_test r h =
-    rw (all_within_test multiplier_limit r.multipliers h.multipliers, within_test multiplier_limit r.scale h.scale, all_within_test number_limit r.coefficients h.coefficients, within_test number_limit r.right h.right)
+    rw (test_from_all multiplier_limit r.multipliers h.multipliers, within_test multiplier_limit r.scale h.scale, test_from_all number_limit r.coefficients h.coefficients, within_test number_limit r.right h.right)
     (rw (le_test r.scale h.scale_low, all_low_test r.multipliers h.multipliers_low) (weighty_test r h.weighty))
 
 -- both ways, of a row as long as rows are

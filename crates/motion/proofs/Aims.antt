@@ -1,12 +1,11 @@
 -- What a state aims at: the sum of three products and a constant, and its magnitude.
-use Rattle.std.proofs.Common.{◌≡◌, ℕ, ◌*◌, ◌<◌, ◌≤◌, true, List, [], ◌∷◌, length, get_or, take, ℤ, ◌+ℤ◌, refl, sym, ap, ◌∙◌, subst, mul-le-mul_left, arith, lit<, w64, SFits, to_z, of_z}
+use Rattle.std.proofs.Common.{◌≡◌, ℕ, ◌*◌, ◌<◌, ◌≤◌, true, List, length, get_or, take, ℤ, ◌+ℤ◌, sym, ap, ◌∙◌, subst, mul-le-mul_left, arith, lit<, w64, SFits, to_z, of_z}
 use mir.Syntax.{w128}
 use Rattle.std.specs.List.{AllByRecursion}
 use Rattle.std.proofs.lemmas.Int.{ints, to_z-of_z}
-use Rattle.std.proofs.lemmas.Bool.{and_from}
-use Rattle.arith.specs.Bounds.{Within, within, all_within}
+use Rattle.arith.specs.Bounds.{Within, all_within}
 use Rattle.arith.specs.Products.{dot}
-use Rattle.arith.proofs.Bounds.{all_from_test, test_from_within, within_wider}
+use Rattle.arith.proofs.Bounds.{all_from_test, within_wider}
 use Rattle.arith.proofs.Dots.{dot_within}
 use Rattle.control.specs.Limits.{most_states, most_inputs, state_limit, command_limit}
 use Rattle.case.specs.Limits.{most_pushes, bound_limit, entry_limit, constant_limit, equation_ok}
@@ -18,11 +17,6 @@ use Rattle.case.proofs.Stored.{RowOk, equations_enough, ok_equation}
 use Rattle.motion.specs.Moves.{aim_limit, no_equation}
 use Rattle.motion.proofs.Stored.{front, held_at}
 use Rattle.arith.proofs.Widths.{wide_within, widened}
-
--- the test of a list of which every value is within the limit
-pub test_from_all : (m : ℕ) (zs : List ℤ) → AllByRecursion (Within m) zs → all_within m zs ≡ true
-test_from_all m [] w = refl
-test_from_all m (z ∷ zs) w = and_from (within m z) (all_within m zs) (test_from_within m z w.0.0 w.0.1) (test_from_all m zs w.1)
 
 -- the magnitude of one product
 product_small : (m width : ℕ) (row xs : List ℤ) → length xs ≤ width → width ≤ most_states → RowOk width row → AllByRecursion (Within m) xs → Within (entry_limit * m * width) (dot (take (length xs) row) xs)

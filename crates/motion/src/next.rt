@@ -68,7 +68,7 @@ pub struct Step<'a> {
 
 impl<'a> Step<'a> {
     // The step of these values, each known to be within its range, as a controller's laws and a case's faces say of theirs.
-    #[tactic(auto, using(crate::proofs::Aims::test_from_all))]
+    #[tactic(auto, using(arith::proofs::Bounds::test_from_all))]
     pub fn new(state: &'a [i64], command: &'a [i64], pushes: &'a [i64]) -> Step<'a>
         requires small_state { AllByRecursion (Within state_limit) state.now }
         requires small_command { AllByRecursion (Within command_limit) command.now }
