@@ -10,6 +10,7 @@ use Rattle.laws.specs.Tables.{stored_rows, law_stored, answer_of, place_after, s
 use Rattle.laws.specs.declared.faults.LawFault.{LawFault}
 use Rattle.laws.specs.declared.faults.LawFault.TheVariants.{Text}
 use Rattle.laws.specs.declared.table.LawTable.{LawTable}
+use Rattle.laws.proofs.Rendering.{head_to}
 
 abbrev after_names : List ℕ → Result (LawText × List ℕ) LawFault
 after_names rest = bind (head_line rest) (λ h. body_of h.0 h.1)
@@ -18,7 +19,7 @@ abbrev after_size : List ℕ → Result (LawText × List ℕ) LawFault
 after_size text = bind (as_law (names_line 1 law_names text)) after_names
 
 -- up to two rows are held as they are stored
-held_two : (rows : List (List ℤ)) → length rows ≤ 2 → held_rows 2 rows ≡ stored_rows rows
+pub held_two : (rows : List (List ℤ)) → length rows ≤ 2 → held_rows 2 rows ≡ stored_rows rows
 held_two [] few = refl
 held_two (a ∷ []) few = refl
 held_two (a ∷ b ∷ []) few = refl
@@ -46,10 +47,13 @@ module _ (text : List ℕ) (u : Unit {0}) (size : Ok u ≡ size_of text) where
         lined : after_row_names lines ≡ law_of text
         lined = ap (λ r. bind (as_law r) after_row_names) row_named ∙ bodied
 
-        pub rows_read : head.inputs ≤ 2 → (rows : List (List ℤ)) (after : List ℕ) → Ok (rows, after) ≡ rows_held 2 (rows_of head.kind head.states head.inputs 4 lines)
+        pub rows_read : (rows : List (List ℤ)) (after : List ℕ) → Ok (rows, after) ≡ rows_held 2 (rows_of head.kind head.states head.inputs 4 lines)
             → Ok (head, rows, after) ≡ law_stored (law_of text)
-        rows_read few rows after h = by_rows (rows_of head.kind head.states head.inputs 4 lines) refl h ∙ ap law_stored lined
+        rows_read rows after h = by_rows (rows_of head.kind head.states head.inputs 4 lines) refl h ∙ ap law_stored lined
           where
+            few : head.inputs ≤ 2
+            few = (head_to rest body head (sym headed)).1.inputs_high
+
             by_rows : (r : Result (List (List ℤ) × List ℕ) LawFault) → rows_of head.kind head.states head.inputs 4 lines ≡ r → Ok (rows, after) ≡ rows_held 2 r
                 → Ok (head, rows, after) ≡ law_stored (bind r built)
             by_rows (Ok p) q k =

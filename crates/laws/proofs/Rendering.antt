@@ -95,7 +95,7 @@ head_to_by text rest h (Some p) cut e = by_kind (kind_at (next_field (Some p.0))
         cut p refl ∙ ap (λ t. t ++ line_feed ∷ p.1) (s.0 ∙ ap (λ t. word_of kind ++ space ∷ t) (sizes_text b.0 s.1)) in
         (whole ∙ ap (λ t. line_before (headed t) p.1) hd ∙ ap (line_before (headed h)) rs, subst HeadKept hd (sizes_kept kind b.0 s.1))
 
-head_to : (text rest : List ℕ) (h : Head) → head_line text ≡ Ok (h, rest) → (text ≡ line_before (headed h) rest) × HeadKept h
+pub head_to : (text rest : List ℕ) (h : Head) → head_line text ≡ Ok (h, rest) → (text ≡ line_before (headed h) rest) × HeadKept h
 head_to text rest h e = head_to_by text rest h (cut_at line_feed text) (cut_is line_feed text) e
 
 word_above : (kind : LawKind) → Above space (word_of kind)

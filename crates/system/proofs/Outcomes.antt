@@ -69,9 +69,13 @@ sized c m region size e =
       columns = ap (λ s. s.columns) p.2;
     }
 
-pub bridged : (c : Case) (m : Meaning) (region : ℕ) → Limits m → m.states ≡ c.states → m.inputs ≡ c.inputs → present m.regions region ≡ true → Bridge (values_of c) (region_of m region)
-bridged c m region limits states inputs there =
+pub bridged_there : (c : Case) (m : Meaning) (region : ℕ) → Limits m → m.states ≡ c.states → m.inputs ≡ c.inputs → present m.regions region ≡ true → Bridge (values_of c) (region_of m region)
+bridged_there c m region limits states inputs there =
     let n = state_count (values_of c) + c.inputs in
     let w : c.states + c.inputs ≡ n = omega (arith, states_are c) in
     bridge (values_of c) (region_of m region) (case_wide c)
     (All-weaker (RowLimits (c.states + c.inputs)) (λ r. length r.coefficients ≡ n) (λ r l. l.wide ∙ w) (region_of m region) (rows_limits c m limits states inputs region there))
+
+-- the same of an answered size
+pub bridged : (c : Case) (m : Meaning) (region : ℕ) (size : SystemSize) → Limits m → Ok size ≡ size_answer (values_of c) m region → Bridge (values_of c) (region_of m region)
+bridged c m region size limits e = let t = sized c m region size e in bridged_there c m region limits t.states t.inputs t.region_there

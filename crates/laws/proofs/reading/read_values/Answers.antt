@@ -13,4 +13,4 @@ pub returns : goal.returns
 returns c =
     rows_read c.args.text.now _ c.in_ok-sized.ensures c.in_ok-rest.rest.now c.in_ok-rest.ensures.value
     (seen c.in_ok-head.head) c.in_ok-head.rest.now c.in_ok-head.ensures c.in_ok-rest-2.rest.now
-    (c.in_ok-rest-2.ensures.value ∙ ap (λ t. names_line 3 t c.in_ok-head.rest.now) c.row_names.ensures) (c.in_ok-head.head.sizes.3) _ _ c.in_ok-rows.ensures
+    (c.in_ok-rest-2.ensures.value ∙ ap (λ t. names_line 3 t c.in_ok-head.rest.now) c.row_names.ensures) _ _ c.in_ok-rows.ensures

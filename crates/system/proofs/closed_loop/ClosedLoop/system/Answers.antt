@@ -3,7 +3,7 @@ use Rattle.std.proofs.Common.{arith}
 use Rattle.control.specs.Means.{meaning_of}
 use Rattle.control.specs.Answers.{region_of}
 use Rattle.system.proofs.Counts.{case_rows}
-use Rattle.system.proofs.Outcomes.{bridged, counted_told, region_limits}
+use Rattle.system.proofs.Outcomes.{bridged_there, counted_told, region_limits}
 use Rattle.system.proofs.closed_loop.ClosedLoop.system.Goals as goal
 
 pub invariant_of-result : goal.invariant_of-result
@@ -23,4 +23,4 @@ returns-clause-bridge g c =
     let l = c.args.self.now in
     let m = meaning_of g.C.Controller l.controller.now in
     let t = counted_told _ m c.args.region c.in_ok-rows.rows c.rows.result c.map_err.result c.rows.ensures c.map_err.ensures.cases c.map_err.ensures.variant c.in_ok-rows.was in
-    bridged l.case.now m c.args.region (g.met.C.Controller.limits l.controller.now) l.states l.inputs t.0
+    bridged_there l.case.now m c.args.region (g.met.C.Controller.limits l.controller.now) l.states l.inputs t.0
